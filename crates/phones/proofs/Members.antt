@@ -1,0 +1,75 @@
+-- Which strings a list has, also after a change.
+use mathlib.Core.Path.{_≡_, refl, ap₂, sym}
+use mathlib.Core.Bool.{Bool, true, false, cond, not, false≢true}
+use mathlib.Core.List.{List, [], _∷_, _++_, List·Memᴰ, List·Memᴰ·head, List·Memᴰ·tail, List·Memᴰ·not-nil, List·Memᴰ·cases-cons}
+use mathlib.Core.Logic.{_⊎_, inl, inr}
+use Prim.Native.Nat.{ℕ, zero, suc, _<_}
+use native.Mathlib.Omega.{arith}
+use borrow.Author.Tests.{eqb-true}
+use lib.Dec.{eqb}
+use lib.ListN.{length}
+use Rattle.arrays.specs.Arrays.{sameBytes}
+use Rattle.arrays.proofs.Laws.{same-refl, same-length}
+use Rattle.phones.specs.Phones.{someOf, kept, contains, removeAll}
+use Rattle.phones.proofs.Removal.{some-snoc}
+use Rattle.phones.proofs.Range.{Short}
+
+-- the same bytes are the same string
+pub same-true : (a b : List ℕ) → sameBytes a b ≡ true → a ≡ b
+unfolding sameBytes
+same-true [] [] h = refl
+same-true [] (y ∷ ys) h = absurd (false≢true h)
+same-true (x ∷ xs) [] h = absurd (false≢true h)
+same-true (x ∷ xs) (y ∷ ys) h = go (eqb x y) refl h (λ k. same-true xs ys k)
+  where
+    go : (t : Bool) → eqb x y ≡ t → cond t (sameBytes xs ys) false ≡ true → (sameBytes xs ys ≡ true → xs ≡ ys) → x ∷ xs ≡ y ∷ ys
+    go true e q rest = ap₂ (λ (z : ℕ) (zs : List ℕ). z ∷ zs) (eqb-true x y e) (rest q)
+    go false e q rest = absurd (false≢true q)
+
+-- ---- contains is membership
+
+pub contains-member : (s : List ℕ) (ps : List (List ℕ)) → contains s ps ≡ true → List·Memᴰ s ps
+unfolding contains someOf
+contains-member s [] h = absurd (false≢true h)
+contains-member s (p ∷ ps) h = go (sameBytes p s) refl h (λ k. contains-member s ps k)
+  where
+    go : (t : Bool) → sameBytes p s ≡ t → cond t true (contains s ps) ≡ true → (contains s ps ≡ true → List·Memᴰ s ps) → List·Memᴰ s (p ∷ ps)
+    go true e q rest = List·Memᴰ·head (sym (same-true p s e))
+    go false e q rest = List·Memᴰ·tail (rest q)
+
+pub member-contains : (s : List ℕ) (ps : List (List ℕ)) → List·Memᴰ s ps → contains s ps ≡ true
+unfolding contains someOf
+member-contains s [] m = absurd (List·Memᴰ·not-nil m)
+member-contains s (p ∷ ps) m = go (List·Memᴰ·cases-cons m) (λ k. member-contains s ps k)
+  where
+    go : (s ≡ p) ⊎ List·Memᴰ s ps → (List·Memᴰ s ps → contains s ps ≡ true) → cond (sameBytes p s) true (contains s ps) ≡ true
+    go (inl e) rest = rw (e, same-refl p)
+    go (inr k) rest = rw (rest k) (either (sameBytes p s))
+      where
+        either : (t : Bool) → cond t true true ≡ true
+        either true = refl
+        either false = refl
+
+-- a long string is unknown
+pub contains-long : (s : List ℕ) (ps : List (List ℕ)) → 32 < length s → Short ps → contains s ps ≡ false
+unfolding contains someOf
+contains-long s [] h k = refl
+contains-long s (p ∷ ps) h k =
+    let m = k zero in
+    rw (same-length p s (λ e. omega arith)) (contains-long s ps h (λ i. k (suc i)))
+
+-- ---- after a change
+
+pub contains-append : (s : List ℕ) (ps : List (List ℕ)) (q : List ℕ) → contains s (ps ++ (q ∷ [])) ≡ cond (contains s ps) true (sameBytes q s)
+unfolding contains
+contains-append s ps q = some-snoc _ ps q
+
+-- none is left
+pub contains-all : (s : List ℕ) (ps : List (List ℕ)) → contains s (removeAll s ps) ≡ false
+unfolding contains removeAll someOf kept
+contains-all s [] = refl
+contains-all s (p ∷ ps) = go (sameBytes p s) refl (contains-all s ps)
+  where
+    go : (t : Bool) → sameBytes p s ≡ t → contains s (removeAll s ps) ≡ false → contains s (cond (not t) (p ∷ removeAll s ps) (removeAll s ps)) ≡ false
+    go true e rest = rest
+    go false e rest = rw e rest

@@ -1,0 +1,4 @@
+pub mod RoundTrip
+pub mod Cases
+pub mod Reading
+pub mod Writing

@@ -1,0 +1,56 @@
+-- The length byte is stored, and the id's bytes are written right after it.
+use mathlib.Core.Path.{_≡_, _∙_}
+use native.Mathlib.Omega.{arith}
+use lib.ListN.{length, length-take, length-set}
+use borrow.Author.Needs.{needs}
+use Rattle.saved_record.proofs.Writing.{field-length, put-id}
+use Rattle.saved_record.proofs.put_phone.Statement.{statement}
+use Rattle.saved_record.proofs.put_phone.Tie as tie
+
+cast-out : tie.Need-cast-out
+cast-out c = search needs
+
+slice-write-out : tie.Need-slice-write-out
+slice-write-out c = search needs
+
+add-put : tie.Need-add-put
+add-put c = search needs
+
+array-share-prefix-bytes : tie.Need-array-share-prefix-bytes
+array-share-prefix-bytes c = let far : length (c .before .before .before .args .p .bytes) ≡ 32 = search needs in omega arith
+
+slice-aggregate-put : tie.Need-slice-aggregate-put
+slice-aggregate-put c = let far : length (c .before .before .before .before .args .p .bytes) ≡ 32 = search needs in rw length-take (omega arith)
+
+put-requires : tie.Need-put-requires
+put-requires c κs = let far : length (c .before .before .before .before .args .p .bytes) ≡ 32 = search needs in rw (length-set, length-take) (omega arith)
+
+add-result : tie.Need-add-result
+add-result c = search needs
+
+add-result-2 : tie.Need-add-result-2
+add-result-2 c = search needs
+
+same-length : tie.Need-same-length
+same-length c = c .before .before .put .kept .0 ∙ simp length-set
+
+returns : tie.Need-returns
+returns c =
+    let s = c .before .before .before .before .before .before .before in
+    let far : length (s .args .p .bytes) ≡ 32 = search needs in
+    (field-length (s .args .p) far (s .pre .0) (s .args .at), c .before .before .put .ensures ∙ put-id (s .args .p) far (s .pre .0) (s .args .out .now) (s .args .at) (omega arith))
+
+pub put-phone-spec : {M : Type 1} → statement M
+put-phone-spec =
+    tie.close
+    (tie.spec
+    cast-out
+    slice-write-out
+    add-put
+    array-share-prefix-bytes
+    slice-aggregate-put
+    put-requires
+    add-result
+    add-result-2
+    same-length
+    returns)

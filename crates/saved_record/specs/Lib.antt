@@ -1,0 +1,2 @@
+pub mod SavedRecord
+pub mod Steps

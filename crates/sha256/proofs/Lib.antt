@@ -1,0 +1,6 @@
+pub mod Laws
+pub mod Pieces
+pub mod Padding
+pub mod Car
+pub mod Smallest
+pub mod Vectors

@@ -1,0 +1,149 @@
+// FIPS 180-4, 6.2.2: the hash value after one block.
+ghost use mathlib.Core.Path.{_≡_};
+ghost use Prim.Native.Nat.{_+_, _*_, _≤_};
+ghost use lib.ListN.{length};
+ghost use Rattle.sha256.specs.Sha256.{M, W, rounds, plus};
+use crate::words::add;
+use crate::words::mixed;
+use crate::words::temp1;
+use crate::words::temp2;
+use crate::words::word;
+
+// FIPS 180-4, 4.2.2.
+const K: [u32; 64] = [
+    0x428a_2f98,
+    0x7137_4491,
+    0xb5c0_fbcf,
+    0xe9b5_dba5,
+    0x3956_c25b,
+    0x59f1_11f1,
+    0x923f_82a4,
+    0xab1c_5ed5,
+    0xd807_aa98,
+    0x1283_5b01,
+    0x2431_85be,
+    0x550c_7dc3,
+    0x72be_5d74,
+    0x80de_b1fe,
+    0x9bdc_06a7,
+    0xc19b_f174,
+    0xe49b_69c1,
+    0xefbe_4786,
+    0x0fc1_9dc6,
+    0x240c_a1cc,
+    0x2de9_2c6f,
+    0x4a74_84aa,
+    0x5cb0_a9dc,
+    0x76f9_88da,
+    0x983e_5152,
+    0xa831_c66d,
+    0xb003_27c8,
+    0xbf59_7fc7,
+    0xc6e0_0bf3,
+    0xd5a7_9147,
+    0x06ca_6351,
+    0x1429_2967,
+    0x27b7_0a85,
+    0x2e1b_2138,
+    0x4d2c_6dfc,
+    0x5338_0d13,
+    0x650a_7354,
+    0x766a_0abb,
+    0x81c2_c92e,
+    0x9272_2c85,
+    0xa2bf_e8a1,
+    0xa81a_664b,
+    0xc24b_8b70,
+    0xc76c_51a3,
+    0xd192_e819,
+    0xd699_0624,
+    0xf40e_3585,
+    0x106a_a070,
+    0x19a4_c116,
+    0x1e37_6c08,
+    0x2748_774c,
+    0x34b0_bcb5,
+    0x391c_0cb3,
+    0x4ed8_aa4a,
+    0x5b9c_ca4f,
+    0x682e_6ff3,
+    0x748f_82ee,
+    0x78a5_636f,
+    0x84c8_7814,
+    0x8cc7_0208,
+    0x90be_fffa,
+    0xa450_6ceb,
+    0xbef9_a3f7,
+    0xc671_78f2,
+];
+
+// Step 1: the schedule of block `i`.
+fn schedule(m: &[u8], i: usize) -> [u32; 64]
+    requires { ⌜ 64 * i + 64 ≤ length (now m) ⌝ }
+    ensures { λ r. ⌜ r ≡ W (M (now (m .entry)) i) 64 ⌝ }
+{
+    let mut w = [0u32; 64];
+    let mut t = 0;
+    while t < 16 {
+        w[t] = word(m, 64 * i + 4 * t);
+        t += 1;
+    }
+    while t < 64 {
+        w[t] = mixed(w[t - 2], w[t - 7], w[t - 15], w[t - 16]);
+        t += 1;
+    }
+    w
+}
+
+// Steps 2 and 3: the working variables after the 64 rounds. K is copied once; an index into the constant itself would
+// copy it in each round.
+fn working(s: [u32; 8], w: [u32; 64]) -> [u32; 8]
+    ensures { λ r. ⌜ r ≡ rounds w s 64 ⌝ }
+{
+    let mut a = s[0];
+    let mut b = s[1];
+    let mut c = s[2];
+    let mut d = s[3];
+    let mut e = s[4];
+    let mut f = s[5];
+    let mut g = s[6];
+    let mut h = s[7];
+    let k = K;
+    let mut t = 0;
+    while t < 64 {
+        let t1 = temp1(e, f, g, h, k[t], w[t]);
+        let t2 = temp2(a, b, c);
+        h = g;
+        g = f;
+        f = e;
+        e = add(d, t1);
+        d = c;
+        c = b;
+        b = a;
+        a = add(t1, t2);
+        t += 1;
+    }
+    [a, b, c, d, e, f, g, h]
+}
+
+// Step 4.
+fn plus(v: [u32; 8], s: [u32; 8]) -> [u32; 8]
+    ensures { λ r. ⌜ r ≡ plus v s ⌝ }
+{
+    let mut r = [0u32; 8];
+    let mut i = 0;
+    while i < 8 {
+        r[i] = add(v[i], s[i]);
+        i += 1;
+    }
+    r
+}
+
+// The hash value after block `i` of `m`, where `h` is the one before it.
+pub fn compress(h: [u32; 8], m: &[u8], i: usize) -> [u32; 8]
+    requires { ⌜ 64 * i + 64 ≤ length (now m) ⌝ }
+    ensures { λ r. ⌜ r ≡ plus (rounds (W (M (now (m .entry)) i) 64) h 64) h ⌝ }
+{
+    let w = schedule(m, i);
+    plus(working(h, w), h)
+}

@@ -1,0 +1,147 @@
+// SHA-256 (FIPS 180-4), and the digest of a car. The definitions are specs/Sha256.antt and specs/CarDigest.antt.
+ghost use mathlib.Core.Path.{_≡_};
+ghost use Prim.Native.Nat.{_*_, _/_, _<_};
+ghost use lib.ListN.{length};
+ghost use Rattle.arrays.specs.Arrays.{padded};
+ghost use Rattle.sha256.specs.Sha256.{H₀, bytes, blockCount, hashFrom, padLast, finished};
+ghost use Rattle.sha256.specs.Sha256 as Sha;
+ghost use Rattle.sha256.specs.CarDigest.{carDigest};
+use arrays::put;
+use block::compress;
+use words::big4;
+use words::little4;
+
+mod block;
+mod words;
+
+// FIPS 180-4, 5.3.3.
+const H0: [u32; 8] = [
+    0x6a09_e667,
+    0xbb67_ae85,
+    0x3c6e_f372,
+    0xa54f_f53a,
+    0x510e_527f,
+    0x9b05_688c,
+    0x1f83_d9ab,
+    0x5be0_cd19,
+];
+
+// The initial hash value.
+pub fn initial() -> [u32; 8]
+    ensures { λ r. ⌜ r ≡ H₀ ⌝ }
+{
+    H0
+}
+
+// The hash value after the whole blocks of `m`, from the hash value `h`. Bytes past the last whole block are not looked
+// at.
+pub fn hash_blocks(h: [u32; 8], m: &[u8]) -> [u32; 8]
+    ensures { λ r. ⌜ r ≡ hashFrom h (now (m .entry)) (length (now (m .entry)) / 64) ⌝ }
+{
+    let mut s = h;
+    let n = m.len() / 64;
+    let mut i = 0;
+    while i < n {
+        let v = compress(s, m, i);
+        s = v;
+        i += 1;
+    }
+    s
+}
+
+// The bytes of a hash value.
+fn out(s: [u32; 8]) -> [u8; 32]
+    ensures { λ r. ⌜ r ≡ bytes s ⌝ }
+{
+    let mut r = [0u8; 32];
+    let mut i = 0;
+    while i < 8 {
+        put(&mut r, 4 * i, &big4(s[i]));
+        i += 1;
+    }
+    r
+}
+
+// How long the last `n` bytes of a message are with their padding.
+fn end(n: usize) -> usize
+    requires { ⌜ n < 64 ⌝ }
+    ensures { λ r. ⌜ r ≡ 64 * blockCount n ⌝ }
+{
+    if n < 56 { 64 } else { 128 }
+}
+
+// 5.1.1: fewer than 64 bytes, padded as the end of a message of `total` bytes. Zeros follow.
+fn last(rest: &[u8], total: u64) -> [u8; 128]
+    requires { ⌜ length (now rest) < 64 ⌝ }
+    ensures { λ r. ⌜ r ≡ padded 128 0 (padLast (now (rest .entry)) total) ⌝ }
+{
+    let mut t = [0u8; 128];
+    let n = rest.len();
+    let e = end(n);
+    put(&mut t, 0, rest);
+    t[n] = 0x80;
+    put(
+        &mut t,
+        e - 8,
+        &big4((total / 0x2000_0000 % 0x1_0000_0000) as u32),
+    );
+    put(&mut t, e - 4, &big4((total % 0x2000_0000 * 8) as u32));
+    t
+}
+
+// The message digest where `h` is the hash value so far, `rest` is what is left of the message, of any length, and the
+// message has `total` bytes in all.
+pub fn finish(h: [u32; 8], rest: &[u8], total: u64) -> [u8; 32]
+    ensures { λ r. ⌜ r ≡ finished h (now (rest .entry)) total ⌝ }
+{
+    let n = rest.len() % 64;
+    let from = rest.len() - n;
+    let g = hash_blocks(h, rest);
+    let t = last(&rest[from..], total);
+    let e = end(n);
+    out(hash_blocks(g, &t[..e]))
+}
+
+// The message digest of `m`. FIPS 180-4 takes messages of fewer than 2^61 bytes; past that the length is taken modulo
+// 2^64 bits.
+pub fn sha256(m: &[u8]) -> [u8; 32]
+    ensures { λ r. ⌜ r ≡ Sha.sha256 (now (m .entry)) ⌝ }
+{
+    finish(H0, m, m.len() as u64)
+}
+
+// How many blocks the padded message of `n` bytes has.
+pub fn block_count(n: u64) -> u64
+    ensures { λ r. ⌜ r ≡ blockCount n ⌝ }
+{
+    if n % 64 < 56 { n / 64 + 1 } else { n / 64 + 2 }
+}
+
+// What `car_digest` answers.
+pub struct Digested {
+    pub ok: bool,
+    pub digest: [u8; 32],
+}
+
+// The digest of a car: SHA-256 over a fixed string, the platform number and the fingerprint. A fingerprint above 4,096
+// bytes has none: `ok` is false, and the digest is zeros.
+pub fn car_digest(platform: u32, fingerprint: &[u8]) -> Digested
+    ensures { λ r. ⌜ r ≡ carDigest platform (now (fingerprint .entry)) ⌝ }
+{
+    if 4096 < fingerprint.len() {
+        return Digested {
+            ok: false,
+            digest: [0u8; 32],
+        };
+    }
+    let mut m = [0u8; 4126];
+    put(&mut m, 0, b"opencar/can-rw-approval/v1");
+    put(&mut m, 26, &little4(platform));
+    put(&mut m, 30, fingerprint);
+    let n = 30 + fingerprint.len();
+    let d = sha256(&m[..n]);
+    Digested {
+        ok: true,
+        digest: d,
+    }
+}
