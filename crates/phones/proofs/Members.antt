@@ -9,7 +9,7 @@ use borrow.Author.Tests.{eqb-true}
 use lib.Dec.{eqb}
 use lib.ListN.{length}
 use Rattle.arrays.specs.Arrays.{sameBytes}
-use Rattle.arrays.proofs.Laws.{same-refl, same-length}
+use Rattle.arrays.proofs.Laws.{cond-same, same-refl, same-length}
 use Rattle.phones.specs.Phones.{someOf, kept, contains, removeAll}
 use Rattle.phones.proofs.Removal.{some-snoc}
 use Rattle.phones.proofs.Range.{Short}
@@ -44,11 +44,7 @@ member-contains s (p ∷ ps) m = go (List·Memᴰ·cases-cons m) (λ k. member-c
   where
     go : (s ≡ p) ⊎ List·Memᴰ s ps → (List·Memᴰ s ps → contains s ps ≡ true) → cond (sameBytes p s) true (contains s ps) ≡ true
     go (inl e) rest = rw (e, same-refl p)
-    go (inr k) rest = rw (rest k) (either (sameBytes p s))
-      where
-        either : (t : Bool) → cond t true true ≡ true
-        either true = refl
-        either false = refl
+    go (inr k) rest = rw (rest k) (cond-same (sameBytes p s) true)
 
 -- a long string is unknown
 pub contains-long : (s : List ℕ) (ps : List (List ℕ)) → 32 < length s → Short ps → contains s ps ≡ false

@@ -1,6 +1,6 @@
 // Phone ids of at most 32 bytes, and the list of at most 32 of them, by value. What an array holds past a length or a
-// count is not looked at. A list that a function makes is canonical: the ids in their order, then empty ids, zeros past
-// each length.
+// count is not looked at, and a length or a count above 32 counts as 32. A list that a function makes is canonical: the
+// ids in their order, then empty ids, zeros past each length.
 ghost use mathlib.Core.Path.{_≡_};
 ghost use mathlib.Core.Bool.{false, cond};
 ghost use mathlib.Core.List.{[]};
@@ -70,13 +70,14 @@ pub fn make_id(s: &[u8]) -> MadeId
 fn clean(p: PhoneId) -> PhoneId
     ensures { λ r. ⌜ r ≡ idOf (idBytes p) ⌝ }
 {
-    let used = p.bytes;
+    let old = p.bytes;
     let n = clamp(p.len);
     let mut bytes = [0u8; 32];
-    arrays::put(&mut bytes, 0, &used[..n]);
+    arrays::put(&mut bytes, 0, &old[..n]);
     PhoneId { bytes, len: n }
 }
 
+// Whether the length is at most 32.
 pub fn id_in_range(p: PhoneId) -> bool
     ensures { λ r. ⌜ r ≡ idInRange p ⌝ }
 {
@@ -252,6 +253,7 @@ pub fn append(l: PhoneList, p: PhoneId) -> PhoneList
     l
 }
 
+// Whether the count, and the length of each id in use, are at most 32.
 pub fn list_in_range(l: PhoneList) -> bool
     ensures { λ r. ⌜ r ≡ listInRange l ⌝ }
 {

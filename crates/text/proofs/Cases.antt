@@ -1,7 +1,7 @@
 -- Worked examples: P5, and strings at the edges of the grammar and of White_Space.
 use mathlib.Core.Path.{_≡_, refl}
-use mathlib.Core.Bool.{Bool, true, false}
-use mathlib.Core.List.{List, [], _∷_, _++_, map}
+use mathlib.Core.Bool.{true, false}
+use mathlib.Core.List.{List, [], _∷_, map}
 use Prim.Native.Nat.{ℕ}
 use Rattle.arrays.specs.Arrays.{sameBytes}
 use Rattle.text.specs.Utf8.{within, encode, encodeAll, decode, utf8-2, utf8-3, utf8-4, begins3, begins4}
@@ -12,18 +12,26 @@ code : List ℕ
 code = 49 ∷ 50 ∷ 51 ∷ 52 ∷ 0 ∷ 0 ∷ 0 ∷ 0 ∷ 0 ∷ []
 
 -- a blank before it, C2 A0 before it, a blank inside
-p5 : map (right code 4) ((32 ∷ 49 ∷ 50 ∷ 51 ∷ 52 ∷ []) ∷ (0xC2 ∷ 0xA0 ∷ 49 ∷ 50 ∷ 51 ∷ 52 ∷ []) ∷ (49 ∷ 50 ∷ 32 ∷ 51 ∷ 52 ∷ []) ∷ [])
+p5 :
+    map (right code 4)
+    ((32 ∷ 49 ∷ 50 ∷ 51 ∷ 52 ∷ []) ∷ (0xC2 ∷ 0xA0 ∷ 49 ∷ 50 ∷ 51 ∷ 52 ∷ []) ∷ (49 ∷ 50 ∷ 32 ∷ 51 ∷ 52 ∷ []) ∷ [])
     ≡ true ∷ true ∷ false ∷ []
 unfolding code right isText trimmed trim trimFront white sameBytes decode encodeAll encode within utf8-2 utf8-3 utf8-4 begins3 begins4
 p5 = refl
 
 -- an ideographic space behind it, and a zero width space, which is no White_Space
-behind : map (right code 4) ((49 ∷ 50 ∷ 51 ∷ 52 ∷ 0xE3 ∷ 0x80 ∷ 0x80 ∷ []) ∷ (49 ∷ 50 ∷ 51 ∷ 52 ∷ 0xE2 ∷ 0x80 ∷ 0x8B ∷ []) ∷ []) ≡ true ∷ false ∷ []
+behind :
+    map (right code 4)
+    ((49 ∷ 50 ∷ 51 ∷ 52 ∷ 0xE3 ∷ 0x80 ∷ 0x80 ∷ []) ∷ (49 ∷ 50 ∷ 51 ∷ 52 ∷ 0xE2 ∷ 0x80 ∷ 0x8B ∷ []) ∷ [])
+    ≡ true ∷ false ∷ []
 unfolding code right isText trimmed trim trimFront white sameBytes decode encodeAll encode within utf8-2 utf8-3 utf8-4 begins3 begins4
 behind = refl
 
--- an octet too many for its number, a surrogate, a number above 10FFFF, and the numbers next to them
-edges : map isText ((0xC1 ∷ 0xBF ∷ []) ∷ (0xED ∷ 0xA0 ∷ 0x80 ∷ []) ∷ (0xF4 ∷ 0x90 ∷ 0x80 ∷ 0x80 ∷ []) ∷ []) ++ map isText ((0xC2 ∷ 0x80 ∷ []) ∷ (0xED ∷ 0x9F ∷ 0xBF ∷ []) ∷ (0xF4 ∷ 0x8F ∷ 0xBF ∷ 0xBF ∷ []) ∷ [])
+-- octets of more than the shortest form, a surrogate, a number above 10FFFF; then the strings next to them
+edges :
+    map isText
+    ((0xC1 ∷ 0xBF ∷ []) ∷ (0xED ∷ 0xA0 ∷ 0x80 ∷ []) ∷ (0xF4 ∷ 0x90 ∷ 0x80 ∷ 0x80 ∷ [])
+    ∷ (0xC2 ∷ 0x80 ∷ []) ∷ (0xED ∷ 0x9F ∷ 0xBF ∷ []) ∷ (0xF4 ∷ 0x8F ∷ 0xBF ∷ 0xBF ∷ []) ∷ [])
     ≡ false ∷ false ∷ false ∷ true ∷ true ∷ true ∷ []
 unfolding isText decode within utf8-2 utf8-3 utf8-4 begins3 begins4
 edges = refl

@@ -27,7 +27,8 @@ module _ (s : List ℕ) where
   unfolding first2
   at-2 a h = rw (drop-cons s 1 0 h)
 
-  pub at-3 : (a b : ℕ) → 3 ≤ length s → first3 a b (drop 2 s) ≡ cond (utf8-3 a b (getD s 2 0)) (Point (point3 a b (getD s 2 0)) 3) (first4 a b (getD s 2 0) (drop 3 s))
+  pub at-3 : (a b : ℕ) → 3 ≤ length s
+      → first3 a b (drop 2 s) ≡ cond (utf8-3 a b (getD s 2 0)) (Point (point3 a b (getD s 2 0)) 3) (first4 a b (getD s 2 0) (drop 3 s))
   unfolding first3
   at-3 a b h = rw (drop-cons s 2 0 h)
 

@@ -34,7 +34,8 @@ within-true lo hi x = go (leb lo x) (leb x hi) refl refl
 abbrev pub Single : ℕ → Type 0
 Single c = (c ≡ 32) ⊎ ((c ≡ 133) ⊎ ((c ≡ 160) ⊎ ((c ≡ 5760) ⊎ ((c ≡ 8239) ⊎ ((c ≡ 8287) ⊎ (c ≡ 12288))))))
 
-pub not-white : (c : ℕ) → (Single c → ⊥) → (9 ≤ c → c ≤ 13 → ⊥) → (8192 ≤ c → c ≤ 8202 → ⊥) → (8232 ≤ c → c ≤ 8233 → ⊥) → false ≡ white c
+pub not-white : (c : ℕ) → (Single c → ⊥)
+    → (9 ≤ c → c ≤ 13 → ⊥) → (8192 ≤ c → c ≤ 8202 → ⊥) → (8232 ≤ c → c ≤ 8233 → ⊥) → false ≡ white c
 unfolding white
 not-white c h p q r =
     rw (

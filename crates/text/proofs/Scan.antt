@@ -29,7 +29,8 @@ unfolding trimFront
 front-more [] c = refl
 front-more (x ∷ p) c = go (white x) (front-more p c)
   where
-    go : (t : Bool) → trimFront (p ++ (c ∷ [])) ≡ after (trimFront p) c → cond t (trimFront (p ++ (c ∷ []))) (x ∷ (p ++ (c ∷ []))) ≡ after (cond t (trimFront p) (x ∷ p)) c
+    go : (t : Bool) → trimFront (p ++ (c ∷ [])) ≡ after (trimFront p) c
+        → cond t (trimFront (p ++ (c ∷ []))) (x ∷ (p ++ (c ∷ []))) ≡ after (cond t (trimFront p) (x ∷ p)) c
     go true e = e
     go false e = refl
 
@@ -151,7 +152,10 @@ module _ (s : List ℕ) (t : Span) (c k : ℕ) (i : Scanned s t) (e : firstChar 
 
   more-rest : decode s ≡ joined more (decode (drop (t .at + k) s))
   unfolding more
-  more-rest = rw (← drop-drop k (t .at) s) (i .rest ∙ ap (joined (i .seen)) (decode-point (drop (t .at) s) c k e) ∙ joined-more (i .seen) c (decode (drop k (drop (t .at) s))))
+  more-rest =
+      let r = drop (t .at) s in
+      rw (← drop-drop k (t .at) s)
+      (i .rest ∙ ap (joined (i .seen)) (decode-point r c k e) ∙ joined-more (i .seen) c (decode (drop k r)))
 
   octets : encode c ≡ take k (drop (t .at) s)
   octets = first-good (drop (t .at) s) c k e .0 .octets
@@ -201,7 +205,8 @@ module _ (s : List ℕ) (t : Span) (c k : ℕ) (i : Scanned s t) (e : firstChar 
       }
     where
       some-kept : trimFront (i .seen) ≡ [] → ⊥
-      some-kept n = q (omega (arith, sym (part-length s (t .start) (t .at) (i .fits)) ∙ ap length (sym (i .front)) ∙ ap (λ (l : List ℕ). length (encodeAll l)) n))
+      some-kept n =
+          q (omega (arith, sym (part-length s (t .start) (t .at) (i .fits)) ∙ ap length (sym (i .front)) ∙ ap (λ (l : List ℕ). length (encodeAll l)) n))
 
   -- any other: the span ends behind it
   turn-solid : white c ≡ false → Scanned s (record { start = t .start; end = t .at + k; at = t .at + k })

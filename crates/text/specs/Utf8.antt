@@ -43,6 +43,7 @@ utf8-1 a = leb a 0x7F
 unfoldable pub utf8-2 : ℕ → ℕ → Bool
 utf8-2 a b = within 0xC2 0xDF a && tail b
 
+-- the first two octets of UTF8-3
 unfoldable pub begins3 : ℕ → ℕ → Bool
 begins3 a b =
     eqb a 0xE0 && within 0xA0 0xBF b
@@ -53,6 +54,7 @@ begins3 a b =
 unfoldable pub utf8-3 : ℕ → ℕ → ℕ → Bool
 utf8-3 a b c = begins3 a b && tail c
 
+-- the first two octets of UTF8-4
 unfoldable pub begins4 : ℕ → ℕ → Bool
 begins4 a b =
     eqb a 0xF0 && within 0x90 0xBF b
@@ -77,7 +79,8 @@ abbrev pub before : ℕ → Option (List ℕ) → Option (List ℕ)
 before c none = none
 before c (some cs) = some (c ∷ cs)
 
--- UTF8-octets: the characters, one after the other; none if some octets are no character
+-- UTF8-octets: the characters, one after the other; none if some octets are no character.
+-- decode2, decode3 and decode4 go on after one, two and three octets that are no character by themselves
 unfoldable mutual
   pub decode : List ℕ → Option (List ℕ)
   decode [] = some []

@@ -17,8 +17,8 @@ clamp-requires c κs = search needs
 slice-aggregate-put : tie.Need-slice-aggregate-put
 slice-aggregate-put c = search needs
 
-array-share-prefix-used : tie.Need-array-share-prefix-used
-array-share-prefix-used c = let far : length (c .before .before .before .args .p .bytes) ≡ 32 = search needs in omega arith
+array-share-prefix-old : tie.Need-array-share-prefix-old
+array-share-prefix-old c = let far : length (c .before .before .before .args .p .bytes) ≡ 32 = search needs in omega arith
 
 slice-aggregate-put-2 : tie.Need-slice-aggregate-put-2
 slice-aggregate-put-2 c = let far : length (c .before .before .before .before .args .p .bytes) ≡ 32 = search needs in rw length-take (omega arith)
@@ -39,7 +39,7 @@ clean-spec =
     (tie.spec
     clamp-requires
     slice-aggregate-put
-    array-share-prefix-used
+    array-share-prefix-old
     slice-aggregate-put-2
     put-requires
     returns)

@@ -47,11 +47,28 @@ is-tail-requires-2 c κs = search needs
 
 returns-4 : tie.Need-returns-4
 unfolding begins3
-returns-4 c = rw (ne-eqb _ _ (c .before .before .before .before .before .before .if1 .left), ← c .before .before .before .before .before .within2 .ensures, c .before .before .before .before .if2 .left, ne-eqb _ _ (c .before .before .before .if3 .left), ← c .before .before .within4 .ensures, c .before .if4 .taken, ← c .is-tail2 .ensures)
+returns-4 c =
+    rw (
+      ne-eqb _ _ (c .before .before .before .before .before .before .if1 .left),
+      ← c .before .before .before .before .before .within2 .ensures,
+      c .before .before .before .before .if2 .left,
+      ne-eqb _ _ (c .before .before .before .if3 .left),
+      ← c .before .before .within4 .ensures,
+      c .before .if4 .taken,
+      ← c .is-tail2 .ensures,
+    )
 
 returns-5 : tie.Need-returns-5
 unfolding begins3
-returns-5 c = rw (ne-eqb _ _ (c .before .before .before .before .before .if1 .left), ← c .before .before .before .before .within2 .ensures, c .before .before .before .if2 .left, ne-eqb _ _ (c .before .before .if3 .left), ← c .before .within4 .ensures, c .if4 .left)
+returns-5 c =
+    rw (
+      ne-eqb _ _ (c .before .before .before .before .before .if1 .left),
+      ← c .before .before .before .before .within2 .ensures,
+      c .before .before .before .if2 .left,
+      ne-eqb _ _ (c .before .before .if3 .left),
+      ← c .before .within4 .ensures,
+      c .if4 .left,
+    )
 
 pub begins-three-spec : {M : Type 1} → statement M
 begins-three-spec =

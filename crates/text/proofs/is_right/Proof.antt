@@ -19,12 +19,16 @@ trim-requires c κs = search needs
 enum-known-t : tie.Need-enum-known-t
 enum-known-t c = search needs
 
--- the code's bytes, and what `trim` answered
+-- the code's bytes
 nine : (c : tie.Start) → length (c .args .t1) ≡ 9
 nine c = search needs
 
-said : (c : tie.After-known-told) → Says (c .before .before .before .before .before .before .args .s .now) (Text (c .before .t .given .0 .0) (c .before .t .given .0 .1 .0))
-said c = subst (Says (c .before .before .before .before .before .before .args .s .now)) (c .before .t .given .1) (c .before .before .before .trim .ensures)
+-- what `trim` answered
+said : (c : tie.After-known-told)
+    → Says (c .before .before .before .before .before .before .args .s .now) (Text (c .before .t .given .0 .0) (c .before .t .given .0 .1 .0))
+said c =
+    let s = c .before .before .before .before .before .before .args .s .now in
+    subst (Says s) (c .before .t .given .1) (c .before .before .before .trim .ensures)
 
 sub-same-all : tie.Need-sub-same-all
 sub-same-all c = said c .2
@@ -39,7 +43,9 @@ array-share-prefix-code : tie.Need-array-share-prefix-code
 array-share-prefix-code c = search needs
 
 slice-aggregate-same-all : tie.Need-slice-aggregate-same-all
-slice-aggregate-same-all c = rw length-take (omega (arith, nine (c .before .before .before .before .before .before .before .before), c .before .before .before .before .before .before .clamp .ensures))
+slice-aggregate-same-all c =
+    let n = nine (c .before .before .before .before .before .before .before .before) in
+    rw length-take (omega (arith, c .before .before .before .before .before .before .clamp .ensures))
 
 same-all-requires : tie.Need-same-all-requires
 same-all-requires c κs = search needs
@@ -50,12 +56,15 @@ enum-told c = search needs
 returns : tie.Need-returns
 unfolding right
 returns c =
+    let a = c .before .before .before .before .before .before .before .before .before .args in
     let s = said (c .before .before .before) in
-    rw (s .0, s .1, ← take-clamped (c .before .before .before .before .before .before .before .before .before .args .t1) (c .before .before .before .before .before .before .before .before .before .args .n) 9 (nine (c .before .before .before .before .before .before .before .before .before)), ← c .before .before .before .before .before .before .before .clamp .ensures) (c .same-all .ensures)
+    rw (s .0, s .1, ← take-clamped (a .t1) (a .n) 9 (nine (c .before .before .before .before .before .before .before .before .before)), ← c .before .before .before .before .before .before .before .clamp .ensures) (c .same-all .ensures)
 
 returns-2 : tie.Need-returns-2
 unfolding right
-returns-2 c = rw (subst (Says (c .before .before .before .before .before .args .s .now)) (c .enum-told .given .1) (c .before .before .trim .ensures))
+returns-2 c =
+    let s = c .before .before .before .before .before .args .s .now in
+    rw (subst (Says s) (c .enum-told .given .1) (c .before .before .trim .ensures))
 
 pub is-right-spec : {M : Type 1} → statement M
 is-right-spec =

@@ -12,13 +12,19 @@ returns : tie.Need-returns
 returns c = not-white (c .before .before .args .c) (c .before .match .rest .1) (omega arith) (omega arith) (omega arith)
 
 returns-2 : tie.Need-returns-2
-returns-2 c = not-white (c .before .before .before .before .args .c) (c .before .before .before .match .rest .1) (omega arith) (omega arith) (omega arith)
+returns-2 c =
+    let m = c .before .before .before in
+    not-white (m .before .args .c) (m .match .rest .1) (omega arith) (omega arith) (omega arith)
 
 returns-3 : tie.Need-returns-3
-returns-3 c = not-white (c .before .before .before .before .before .before .args .c) (c .before .before .before .before .before .match .rest .1) (omega arith) (omega arith) (omega arith)
+returns-3 c =
+    let m = c .before .before .before .before .before in
+    not-white (m .before .args .c) (m .match .rest .1) (omega arith) (omega arith) (omega arith)
 
 returns-4 : tie.Need-returns-4
-returns-4 c = not-white (c .before .before .before .before .before .before .before .args .c) (c .before .before .before .before .before .before .match .rest .1) (omega arith) (omega arith) (omega arith)
+returns-4 c =
+    let m = c .before .before .before .before .before .before in
+    not-white (m .before .args .c) (m .match .rest .1) (omega arith) (omega arith) (omega arith)
 
 returns-5 : tie.Need-returns-5
 unfolding white within
@@ -34,11 +40,13 @@ returns-6 c = rw (inside 9 13 (c .before .before .before .args .c) (omega arith)
 
 returns-7 : tie.Need-returns-7
 unfolding white
-returns-7 c = rw (inside 8192 8202 (c .before .before .before .before .before .args .c) (omega arith) (omega arith)) (simp or-true)
+returns-7 c =
+    rw (inside 8192 8202 (c .before .before .before .before .before .args .c) (omega arith) (omega arith)) (simp or-true)
 
 returns-8 : tie.Need-returns-8
 unfolding white
-returns-8 c = rw (inside 8232 8233 (c .before .before .before .before .before .before .before .args .c) (omega arith) (omega arith)) (simp or-true)
+returns-8 c =
+    rw (inside 8232 8233 (c .before .before .before .before .before .before .before .args .c) (omega arith) (omega arith)) (simp or-true)
 
 pub is-white-spec : {M : Type 1} → statement M
 is-white-spec =

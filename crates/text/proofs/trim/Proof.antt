@@ -1,6 +1,6 @@
 -- The invariant: the span is what is left, trimmed, of the code points before `at`. Assumes nothing.
 use mathlib.Core.Path.{_≡_, ap, sym, _∙_}
-use Prim.Native.Nat.{_-_}
+use Prim.Native.Nat.{_-_, _<_}
 use native.Mathlib.Omega.{arith}
 use borrow.Author.Needs.{needs}
 use lib.ListN.{length, drop, length-drop}
@@ -31,7 +31,9 @@ part-first-char-end c = search needs
 first-char-requires : tie.Need-first-char-requires Inv-loop μ-loop
 first-char-requires c κs = search needs
 
-first : (c : tie.After-first-char Inv-loop μ-loop) → c .first-char .result ≡ firstChar (drop (c .before .before .before .before .loop .t .at) (c .before .before .before .before .before .before .args .s .now))
+-- the part that was lent is all that is left
+first : (c : tie.After-first-char Inv-loop μ-loop)
+    → c .first-char .result ≡ firstChar (drop (c .before .before .before .before .loop .t .at) (c .before .before .before .before .before .before .args .s .now))
 first c =
     let s = c .before .before .before .before .before .before .args .s .now in
     let at = c .before .before .before .before .loop .t .at in
@@ -44,23 +46,40 @@ enum-told : tie.Need-enum-told Inv-loop μ-loop
 enum-told c = search needs
 
 returns : tie.Need-returns Inv-loop μ-loop
-returns c = scan-bad (c .before .before .before .before .before .before .before .before .args .s .now) (c .before .before .before .before .before .before .loop .t) (c .before .before .before .before .before .before .loop .inv) (c .before .before .before .before .if1 .taken) (sym (first (c .before .before)) ∙ c .enum-told .given .1)
+returns c =
+    let s = c .before .before .before .before .before .before .before .before .args .s .now in
+    let l = c .before .before .before .before .before .before .loop in
+    scan-bad s (l .t) (l .inv) (c .before .before .before .before .if1 .taken) (sym (first (c .before .before)) ∙ c .enum-told .given .1)
 
 add-turn : tie.Need-add-turn Inv-loop μ-loop
 add-turn c =
-    omega (arith, next-fits (c .before .before .before .before .before .before .before .before .before .args .s .now) (c .before .before .before .before .before .before .before .loop .t) (c .before .c .given .0 .0) (c .before .c .given .0 .1 .0) (c .before .before .before .before .before .before .before .loop .inv) (sym (first (c .before .before .before)) ∙ c .before .c .given .1))
+    let s = c .before .before .before .before .before .before .before .before .before .args .s .now in
+    let l = c .before .before .before .before .before .before .before .loop in
+    let p = c .before .c .given in
+    omega (arith, next-fits s (l .t) (p .0 .0) (p .0 .1 .0) (l .inv) (sym (first (c .before .before .before)) ∙ p .1))
 
 turn-requires : tie.Need-turn-requires Inv-loop μ-loop
 turn-requires c κs = search needs
 
+turned : (c : tie.After-turn Inv-loop μ-loop)
+    → Scanned (c .before .before .before .before .before .before .before .before .before .before .args .s .now) (c .turn .result)
+    × (c .before .before .before .before .before .before .before .before .loop .t .at < c .turn .result .at)
+turned c =
+    let s = c .before .before .before .before .before .before .before .before .before .before .args .s .now in
+    let l = c .before .before .before .before .before .before .before .before .loop in
+    let p = c .before .before .c .given in
+    rw (c .turn .ensures) (scan-turn s (l .t) (p .0 .0) (p .0 .1 .0) (l .inv) (sym (first (c .before .before .before .before)) ∙ p .1))
+
 loop-less : tie.Need-loop-less Inv-loop μ-loop
-loop-less c = rw (c .turn .ensures) (omega (arith, scan-turn (c .before .before .before .before .before .before .before .before .before .before .args .s .now) (c .before .before .before .before .before .before .before .before .loop .t) (c .before .before .c .given .0 .0) (c .before .before .c .given .0 .1 .0) (c .before .before .before .before .before .before .before .before .loop .inv) (sym (first (c .before .before .before .before)) ∙ c .before .before .c .given .1) .1))
+loop-less c = omega (arith, turned c .1, turned c .0 .fits)
 
 loop-again : tie.Need-loop-again Inv-loop μ-loop
-loop-again c = rw (c .turn .ensures) (scan-turn (c .before .before .before .before .before .before .before .before .before .before .args .s .now) (c .before .before .before .before .before .before .before .before .loop .t) (c .before .before .c .given .0 .0) (c .before .before .c .given .0 .1 .0) (c .before .before .before .before .before .before .before .before .loop .inv) (sym (first (c .before .before .before .before)) ∙ c .before .before .c .given .1) .0)
+loop-again c = turned c .0
 
 returns-2 : tie.Need-returns-2 Inv-loop μ-loop
-returns-2 c = scan-end (c .before .before .before .before .args .s .now) (c .before .before .loop .t) (c .before .before .loop .inv) (c .if1 .left)
+returns-2 c =
+    let l = c .before .before .loop in
+    scan-end (c .before .before .before .before .args .s .now) (l .t) (l .inv) (c .if1 .left)
 
 pub trim-spec : {M : Type 1} → statement M
 trim-spec =

@@ -1,0 +1,63 @@
+-- Laws of what is written one after the other.
+use mathlib.Core.Path.{_≡_, refl, ap, sym, _∙_}
+use mathlib.Core.List.{List, [], _∷_, _++_, append-assoc, append-nil}
+use Prim.Native.Nat.{ℕ, _+_, _≤_}
+use native.Mathlib.Nat.{add-zero, zero-add}
+use native.Mathlib.Omega.{arith}
+use lib.ListN.{length, take, drop, set, length-append, replicate, take-append-drop}
+use lib.Seq.{drop-drop}
+use Rattle.arrays.specs.Arrays.{padded, put}
+use Rattle.arrays.proofs.Laws.{put-take, put-drop, put-length, put-padded}
+use Rattle.listing.specs.declared.Listing.{Listing}
+use Rattle.listing.specs.Listing.{line, listed}
+use Rattle.listing.specs.Walk.{Wrote}
+
+put-over : (d : List ℕ) (at : ℕ) (x y e : List ℕ) → take (at + length x) e ≡ take at d ++ x → drop (at + length x + length y) e ≡ drop (at + length x + length y) d
+    → put e (at + length x) y ≡ put d at (x ++ y)
+unfolding put
+put-over d at x y e t r =
+    let l : at + length (x ++ y) ≡ at + length x + length y = rw length-append (omega arith) in
+    rw (t, r, l, append-assoc (take at d) x y)
+
+-- a second text right after the first
+pub put-put : (d : List ℕ) (at : ℕ) (x y : List ℕ) → at + length x + length y ≤ length d → put (put d at x) (at + length x) y ≡ put d at (x ++ y)
+put-put d at x y h =
+    let n = at + length x in
+    put-over d at x y (put d at x) (put-take d at x (omega arith))
+    (sym (drop-drop (length y) n (put d at x)) ∙ ap (drop (length y)) (put-drop d at x (omega arith)) ∙ drop-drop (length y) n d)
+
+pub put-nil : (d : List ℕ) (at : ℕ) → put d at [] ≡ d
+unfolding put
+put-nil d at = rw (add-zero at, append-nil (take at d)) (take-append-drop at d)
+
+pub line-length : (name value : List ℕ) → length (line name value) ≡ length name + length value + 1
+unfolding line
+line-length name value = length-append (name ++ value) (10 ∷ []) ∙ ap (λ (n : ℕ). n + 1) (length-append name value)
+
+-- a second text after the first
+pub wrote-more : (a : List ℕ) (at : ℕ) (x b : List ℕ) (m : ℕ) (y c : List ℕ) (e : ℕ) → Wrote a at x b m → Wrote b m y c e → at + length (x ++ y) ≤ length a → Wrote a at (x ++ y) c e
+wrote-more a at x b m y c e w v h =
+    let l = length-append x y in
+    let p = w .place in
+    let q = v .place in
+    record { bytes = rw (v .bytes, w .bytes, p) (put-put a at x y (omega arith)); place = omega arith }
+
+-- a name, a value and byte 10 make a line
+pub wrote-line : (d : List ℕ) (at : ℕ) (name value d₁ : List ℕ) (from : ℕ) (d₂ : List ℕ) (end : ℕ) (d₃ : List ℕ) (e : ℕ)
+    → Wrote d at name d₁ from → Wrote d₁ from value d₂ end → Wrote d₂ end (10 ∷ []) d₃ e → at + length (line name value) ≤ length d
+    → Wrote d at (line name value) d₃ e
+unfolding line
+wrote-line d at name value d₁ from d₂ end d₃ e w v u h =
+    let l = line-length name value in
+    let b = length-append name value in
+    wrote-more d at (name ++ value) d₂ end (10 ∷ []) d₃ e (wrote-more d at name d₁ from value d₂ end w v (omega arith)) u h
+
+-- what is written into zeros is a listing
+pub wrote-listed : (text bytes : List ℕ) (len : ℕ) → Wrote (replicate {A = ℕ} 2361 0) 0 text bytes len → _≡_ {A = Listing} (record { bytes = bytes; len = len }) (listed text)
+unfolding listed padded
+wrote-listed text bytes len w =
+    let l : len ≡ length text = w .place ∙ zero-add (length text) in
+    rw (w .bytes, zeros, put-padded 2361 0 [] text, l)
+  where
+    zeros : replicate {A = ℕ} 2361 0 ≡ padded 2361 0 []
+    zeros = refl
