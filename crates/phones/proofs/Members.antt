@@ -1,30 +1,16 @@
 -- Which strings a list has, also after a change.
-use mathlib.Core.Path.{_≡_, refl, ap₂, sym}
+use mathlib.Core.Path.{_≡_, refl, sym}
 use mathlib.Core.Bool.{Bool, true, false, cond, not, false≢true}
 use mathlib.Core.List.{List, [], _∷_, _++_, List·Memᴰ, List·Memᴰ·head, List·Memᴰ·tail, List·Memᴰ·not-nil, List·Memᴰ·cases-cons}
 use mathlib.Core.Logic.{_⊎_, inl, inr}
 use Prim.Native.Nat.{ℕ, zero, suc, _<_}
 use native.Mathlib.Omega.{arith}
-use borrow.Author.Tests.{eqb-true}
-use lib.Dec.{eqb}
 use lib.ListN.{length}
 use Rattle.arrays.specs.Arrays.{sameBytes}
-use Rattle.arrays.proofs.Laws.{cond-same, same-refl, same-length}
+use Rattle.arrays.proofs.Laws.{cond-same, same-refl, same-length, same-bytes-is}
 use Rattle.phones.specs.Phones.{someOf, kept, contains, removeAll}
 use Rattle.phones.proofs.Removal.{some-snoc}
 use Rattle.phones.proofs.Range.{Short}
-
--- the same bytes are the same string
-pub same-true : (a b : List ℕ) → sameBytes a b ≡ true → a ≡ b
-unfolding sameBytes
-same-true [] [] h = refl
-same-true [] (y ∷ ys) h = absurd (false≢true h)
-same-true (x ∷ xs) [] h = absurd (false≢true h)
-same-true (x ∷ xs) (y ∷ ys) h = go (eqb x y) refl h (λ k. same-true xs ys k)
-  where
-    go : (t : Bool) → eqb x y ≡ t → cond t (sameBytes xs ys) false ≡ true → (sameBytes xs ys ≡ true → xs ≡ ys) → x ∷ xs ≡ y ∷ ys
-    go true e q rest = ap₂ (λ (z : ℕ) (zs : List ℕ). z ∷ zs) (eqb-true x y e) (rest q)
-    go false e q rest = absurd (false≢true q)
 
 -- ---- contains is membership
 
@@ -34,7 +20,7 @@ contains-member s [] h = absurd (false≢true h)
 contains-member s (p ∷ ps) h = go (sameBytes p s) refl h (λ k. contains-member s ps k)
   where
     go : (t : Bool) → sameBytes p s ≡ t → cond t true (contains s ps) ≡ true → (contains s ps ≡ true → List·Memᴰ s ps) → List·Memᴰ s (p ∷ ps)
-    go true e q rest = List·Memᴰ·head (sym (same-true p s e))
+    go true e q rest = List·Memᴰ·head (sym (same-bytes-is p s .0 e))
     go false e q rest = List·Memᴰ·tail (rest q)
 
 pub member-contains : (s : List ℕ) (ps : List (List ℕ)) → List·Memᴰ s ps → contains s ps ≡ true

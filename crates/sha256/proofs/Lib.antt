@@ -3,4 +3,3 @@ pub mod Pieces
 pub mod Padding
 pub mod Car
 pub mod Smallest
-pub mod Vectors
