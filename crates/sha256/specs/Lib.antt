@@ -1,2 +1,1 @@
 pub mod Sha256
-pub mod CarDigest

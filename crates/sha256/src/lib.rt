@@ -1,15 +1,13 @@
-// SHA-256 (FIPS 180-4), and the digest of a car. The definitions are specs/Sha256.antt and specs/CarDigest.antt.
+// SHA-256 (FIPS 180-4). The definition is specs/Sha256.antt.
 ghost use mathlib.Core.Path.{_≡_};
 ghost use Prim.Native.Nat.{_*_, _/_, _<_};
 ghost use lib.ListN.{length};
 ghost use Rattle.arrays.specs.Arrays.{padded};
 ghost use Rattle.sha256.specs.Sha256.{H₀, bytes, blockCount, hashFrom, padLast, finished};
 ghost use Rattle.sha256.specs.Sha256 as Sha;
-ghost use Rattle.sha256.specs.CarDigest.{carDigest};
 use arrays::put;
 use block::compress;
 use words::big4;
-use words::little4;
 
 mod block;
 mod words;
@@ -118,30 +116,3 @@ pub fn block_count(n: u64) -> u64
 }
 
 // What `car_digest` answers.
-pub struct Digested {
-    pub ok: bool,
-    pub digest: [u8; 32],
-}
-
-// The digest of a car: SHA-256 over a fixed string, the platform number and the fingerprint. A fingerprint above 4,096
-// bytes has none: `ok` is false, and the digest is zeros.
-pub fn car_digest(platform: u32, fingerprint: &[u8]) -> Digested
-    ensures { λ r. ⌜ r ≡ carDigest platform (now (fingerprint .entry)) ⌝ }
-{
-    if 4096 < fingerprint.len() {
-        return Digested {
-            ok: false,
-            digest: [0u8; 32],
-        };
-    }
-    let mut m = [0u8; 4126];
-    put(&mut m, 0, b"opencar/can-rw-approval/v1");
-    put(&mut m, 26, &little4(platform));
-    put(&mut m, 30, fingerprint);
-    let n = 30 + fingerprint.len();
-    let d = sha256(&m[..n]);
-    Digested {
-        ok: true,
-        digest: d,
-    }
-}

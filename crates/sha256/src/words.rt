@@ -4,7 +4,6 @@ ghost use Prim.Native.Nat.{_+_, _%_, _<_, _≤_};
 ghost use lib.ListN.{length};
 ghost use Rattle.sha256.specs.Sha256.{_⊞_, Ch, Maj, Σ₀, Σ₁, σ₀, σ₁, T₁, T₂, bytes4};
 ghost use Rattle.sha256.specs.Sha256 as Sha;
-ghost use Rattle.sha256.specs.CarDigest.{little4};
 
 fn wide(x: u8) -> u32
     ensures { λ r. ⌜ (r ≡ x) × (r < 256) ⌝ }
@@ -96,11 +95,4 @@ pub fn big4(x: u32) -> [u8; 4]
     ensures { λ r. ⌜ r ≡ bytes4 x ⌝ }
 {
     [byte(x >> 24), byte(x >> 16), byte(x >> 8), byte(x)]
-}
-
-// The bytes of `x`, the least significant first.
-pub fn little4(x: u32) -> [u8; 4]
-    ensures { λ r. ⌜ r ≡ little4 x ⌝ }
-{
-    [byte(x), byte(x >> 8), byte(x >> 16), byte(x >> 24)]
 }

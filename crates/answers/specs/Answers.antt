@@ -1,0 +1,167 @@
+-- What each query answers. 25 comes first: then the rest of the answer is zeros, no and none.
+use mathlib.Core.Bool.{Bool, true, false, cond, not, _&&_, _||_}
+use mathlib.Core.List.{List, [], _∷_}
+use Prim.Native.Nat.{ℕ, zero, suc, _-_}
+use lib.Dec.{eqb, ltb}
+use lib.ListN.{length, take, replicate}
+use Rattle.arrays.specs.Arrays.{padded}
+use Rattle.phones.specs.declared.PhoneId.{PhoneId}
+use Rattle.phones.specs.declared.PhoneList.{PhoneList}
+use Rattle.phones.specs.Phones.{idBytes, idOf, phonesOf, listOf}
+use Rattle.saved_record.specs.declared.SavedRecord.{SavedRecord}
+use Rattle.state.specs.declared.Method.{Method}
+use Rattle.state.specs.declared.Methods.{Methods}
+use Rattle.state.specs.declared.Session.{Session}
+use Rattle.state.specs.declared.Challenge.{Challenge}
+use Rattle.state.specs.declared.Core.{Core}
+use Rattle.state.specs.declared.Answer.{Answer}
+use Rattle.state.specs.declared.Answer.the-variants as Answer
+use Rattle.state.specs.declared.Answer.the-variants.{Done, Nothing, BadSettings}
+use Rattle.state.specs.Range.{inRange, isRunning, inProgress, codeInProgress, noMethod}
+use Rattle.state.specs.Replies.{noRecord, noChallenge}
+use Rattle.can_access.specs.declared.Approval.{Approval}
+use Rattle.can_access.specs.declared.Approval.the-variants.{NotApproved}
+use Rattle.can_access.specs.Policy.{fingerprintConfirmed, devLock, devUnlocked, isReadOnly, approvalOf}
+use Rattle.can_access.specs.Changes.{yesNo}
+use Rattle.phone_trust.specs.declared.Trust.{Trust}
+use Rattle.phone_trust.specs.declared.Trust.the-variants.{NotBonded}
+use Rattle.phone_trust.specs.Trust.{isValidated, carHasValidated, trustOf}
+use Rattle.phone_trust.specs.Changes.{recordFor}
+use Rattle.validation.specs.Session.{replyOf, isOf, lostReadWrite, noteAt}
+use Rattle.answers.specs.declared.ApprovalAnswer.{ApprovalAnswer}
+use Rattle.answers.specs.declared.AccessAnswer.{AccessAnswer}
+use Rattle.answers.specs.declared.PhonesAnswer.{PhonesAnswer}
+use Rattle.answers.specs.declared.TrustAnswer.{TrustAnswer}
+use Rattle.answers.specs.declared.PeerAnswer.{PeerAnswer}
+use Rattle.answers.specs.declared.PhoneAccessAnswer.{PhoneAccessAnswer}
+use Rattle.answers.specs.declared.MethodsAnswer.{MethodsAnswer}
+use Rattle.answers.specs.declared.ChallengeAnswer.{ChallengeAnswer}
+use Rattle.answers.specs.declared.RecordAnswer.{RecordAnswer}
+
+-- ---- yes or no, a number
+
+unfoldable pub told : Core → Answer → Answer
+told c a = cond (inRange c) a BadSettings
+
+-- ---- the policy
+
+unfoldable pub approvalAnswer : Core → ApprovalAnswer
+approvalAnswer c =
+    cond (inRange c)
+    (record { answer = Done; approval = approvalOf (c .policy .identity) (c .policy .access) })
+    (record { answer = BadSettings; approval = NotApproved })
+
+-- can_access_state
+unfoldable pub accessAnswer : Core → AccessAnswer
+accessAnswer c =
+    cond (inRange c)
+    (record {
+      answer = Done;
+      platform = c .policy .identity .confirmed;
+      car = fingerprintConfirmed (c .policy .identity);
+      approval = approvalOf (c .policy .identity) (c .policy .access);
+      devlock = devLock (c .policy .access);
+      unlocked = devUnlocked (c .policy .access);
+      logging = c .policy .buses .logging;
+      readonly = isReadOnly (c .policy);
+    })
+    (record { answer = BadSettings; platform = false; car = false; approval = NotApproved; devlock = false; unlocked = false; logging = false; readonly = false })
+
+-- ---- phones
+
+-- list_paired_phones
+unfoldable pub phonesAnswer : Core → PhonesAnswer
+phonesAnswer c =
+    cond (inRange c)
+    (record { answer = Done; phones = listOf (phonesOf (c .paired)) })
+    (record { answer = BadSettings; phones = listOf [] })
+
+unfoldable pub trustAnswer : Core → List ℕ → TrustAnswer
+trustAnswer c id =
+    cond (inRange c) (record { answer = Done; trust = trustOf c id }) (record { answer = BadSettings; trust = NotBonded })
+
+-- encode_phone_validations
+unfoldable pub recordAnswer : Core → RecordAnswer
+recordAnswer c =
+    cond (inRange c) (record { answer = Done; stored = recordFor (c .validations) }) (record { answer = BadSettings; stored = noRecord })
+
+-- ---- the connected phone: none exactly if its id is empty
+
+abbrev pub noPeer : Answer → PeerAnswer
+noPeer a = record { answer = a; peer = idOf []; validated = false }
+
+unfoldable pub peerAnswer : Core → PeerAnswer
+peerAnswer c =
+    cond (inRange c)
+    (cond (eqb (c .peer .len) 0) (noPeer Nothing)
+    (record { answer = Done; peer = idOf (idBytes (c .peer)); validated = isValidated c (idBytes (c .peer)) }))
+    (noPeer BadSettings)
+
+-- ---- sessions
+
+-- shown while it runs, and less than the result-keep after its end
+unfoldable pub isShown : Core → List ℕ → ℕ → Bool
+isShown c phone clock =
+    let s = c .validation .session in
+    s .present && isOf s phone && (isRunning (s .status) || ltb (clock - s .ended) (c .settings .keep))
+
+-- session_for
+unfoldable pub sessionShown : Core → List ℕ → ℕ → Answer
+sessionShown c phone clock =
+    cond (isShown c phone clock) (Answer.Session (replyOf c (c .validation .session) clock)) Nothing
+
+-- phone_access_state
+abbrev pub noAccess : Answer → PhoneAccessAnswer
+noAccess a = record { answer = a; trust = NotBonded; validated = false; session = Nothing }
+
+unfoldable pub phoneAccessAnswer : Core → ℕ → PhoneAccessAnswer
+phoneAccessAnswer c clock =
+    cond (inRange c)
+    (cond (eqb (c .peer .len) 0) (noAccess Nothing)
+    (record {
+      answer = Done;
+      trust = trustOf c (idBytes (c .peer));
+      validated = carHasValidated c;
+      session = sessionShown c (idBytes (c .peer)) clock;
+    }))
+    (noAccess BadSettings)
+
+-- ---- methods
+
+-- is_method_available
+unfoldable pub canStart : Core → ℕ → Method → Bool
+canStart c at m = fingerprintConfirmed (c .policy .identity) && not (lostReadWrite c m) && noteAt (c .methods .available) at
+
+-- of each method from place `at` on, whether it can start now
+unfoldable pub canStartFrom : Core → ℕ → List Method → List Bool
+canStartFrom c at [] = []
+canStartFrom c at (m ∷ ms) = canStart c at m ∷ canStartFrom c (suc at) ms
+
+abbrev pub methodsOf : Answer → List Method → List Bool → MethodsAnswer
+methodsOf a ms bs = record { answer = a; list = padded 8 noMethod ms; available = padded 8 false bs; count = length ms }
+
+-- validation_methods
+unfoldable pub methodsAnswer : Core → MethodsAnswer
+methodsAnswer c =
+    let used = take (c .methods .count) (c .methods .list) in
+    cond (inRange c) (methodsOf Done used (canStartFrom c 0 used)) (methodsOf BadSettings [] [])
+
+-- ---- the challenge
+
+-- the first n digits, and zeros
+unfoldable pub shownDigits : List ℕ → ℕ → List ℕ
+shownDigits held n = padded 9 0 (take n held)
+
+-- the running challenge; its digits are put in where it has any
+unfoldable pub challengeOf : Core → List ℕ → Challenge
+challengeOf c held =
+    let s = c .validation .session in
+    let n = cond (codeInProgress (c .methods) s) (c .settings .digits) 0 in
+    record { running = true; session = s .number; method = s .method; length = n; code = shownDigits held n }
+
+-- current_validation_challenge
+unfoldable pub challengeAnswer : Core → List ℕ → ChallengeAnswer
+challengeAnswer c held =
+    cond (inRange c)
+    (cond (inProgress (c .validation .session)) (record { answer = Done; challenge = challengeOf c held }) (record { answer = Nothing; challenge = noChallenge }))
+    (record { answer = BadSettings; challenge = noChallenge })

@@ -1,0 +1,76 @@
+-- The queries, and the answer to each. `held` are the gate's digits: only the running challenge shows them.
+use mathlib.Core.Bool.{Bool}
+use mathlib.Core.List.{List}
+use Prim.Native.Nat.{ℕ}
+use lib.ListN.{length}
+use Rattle.phones.specs.Phones.{phonesOf}
+use Rattle.state.specs.declared.Core.{Core}
+use Rattle.state.specs.declared.Answer.{Answer}
+use Rattle.state.specs.declared.Answer.the-variants.{Count, Number, Reason}
+use Rattle.can_access.specs.Policy.{fingerprintConfirmed, devLock, devUnlocked, isReadOnly, isFdBus, isBusReadOnly, reason}
+use Rattle.can_access.specs.Changes.{yesNo}
+use Rattle.phone_trust.specs.Trust.{isPaired, isValidated, carHasValidated}
+use Rattle.can_probe.specs.Window.{isListenOnly}
+use Rattle.answers.specs.declared.ApprovalAnswer.{ApprovalAnswer}
+use Rattle.answers.specs.declared.AccessAnswer.{AccessAnswer}
+use Rattle.answers.specs.declared.PhonesAnswer.{PhonesAnswer}
+use Rattle.answers.specs.declared.TrustAnswer.{TrustAnswer}
+use Rattle.answers.specs.declared.PeerAnswer.{PeerAnswer}
+use Rattle.answers.specs.declared.PhoneAccessAnswer.{PhoneAccessAnswer}
+use Rattle.answers.specs.declared.MethodsAnswer.{MethodsAnswer}
+use Rattle.answers.specs.declared.ChallengeAnswer.{ChallengeAnswer}
+use Rattle.answers.specs.declared.RecordAnswer.{RecordAnswer}
+use Rattle.answers.specs.Answers.{told, approvalAnswer, accessAnswer, phonesAnswer, trustAnswer, recordAnswer, peerAnswer, sessionShown, phoneAccessAnswer, methodsAnswer, challengeAnswer}
+
+pub data Query : Type 0 where
+  isCanReadOnly canReadOnlyReason isCarIdentityConfirmed isCarFingerprintConfirmed canReadWriteApproval : Query
+  hasCanDevWriteLock isCanDevWriteUnlocked canAccessState platformId isCanLogging : Query
+  isCanFdBus isCanBusReadOnly : (bus : ℕ) → Query
+  isCanBusListenOnly : (bus clock : ℕ) → Query
+  isPhonePaired isPhoneValidated phoneTrustLevel : (id : List ℕ) → Query
+  pairedPhoneCount listPairedPhones bleMaxBondedPhones carHasValidatedPhone blePeer : Query
+  phoneAccessState : (clock : ℕ) → Query
+  validationMethods : Query
+  sessionFor : (phone : List ℕ) (clock : ℕ) → Query
+  currentValidationChallenge encodePhoneValidations : Query
+
+-- an answer, or a struct that begins with one
+pub data Reply : Type 0 where
+  plain : Answer → Reply
+  approval : ApprovalAnswer → Reply
+  access : AccessAnswer → Reply
+  phones : PhonesAnswer → Reply
+  trust : TrustAnswer → Reply
+  peer : PeerAnswer → Reply
+  phoneAccess : PhoneAccessAnswer → Reply
+  methods : MethodsAnswer → Reply
+  challenge : ChallengeAnswer → Reply
+  saved : RecordAnswer → Reply
+
+unfoldable pub answerTo : Core → List ℕ → Query → Reply
+answerTo c held isCanReadOnly = plain (told c (yesNo (isReadOnly (c .policy))))
+answerTo c held canReadOnlyReason = plain (told c (Reason (reason (c .policy))))
+answerTo c held isCarIdentityConfirmed = plain (told c (yesNo (c .policy .identity .confirmed)))
+answerTo c held isCarFingerprintConfirmed = plain (told c (yesNo (fingerprintConfirmed (c .policy .identity))))
+answerTo c held canReadWriteApproval = approval (approvalAnswer c)
+answerTo c held hasCanDevWriteLock = plain (told c (yesNo (devLock (c .policy .access))))
+answerTo c held isCanDevWriteUnlocked = plain (told c (yesNo (devUnlocked (c .policy .access))))
+answerTo c held canAccessState = access (accessAnswer c)
+answerTo c held platformId = plain (told c (Number (c .policy .identity .platform)))
+answerTo c held isCanLogging = plain (told c (yesNo (c .policy .buses .logging)))
+answerTo c held (isCanFdBus bus) = plain (told c (yesNo (isFdBus (c .policy .buses) bus)))
+answerTo c held (isCanBusReadOnly bus) = plain (told c (yesNo (isBusReadOnly (c .policy) bus)))
+answerTo c held (isCanBusListenOnly bus clock) = plain (told c (yesNo (isListenOnly (c .policy) (c .probe) bus clock)))
+answerTo c held (isPhonePaired id) = plain (told c (yesNo (isPaired c id)))
+answerTo c held (isPhoneValidated id) = plain (told c (yesNo (isValidated c id)))
+answerTo c held (phoneTrustLevel id) = trust (trustAnswer c id)
+answerTo c held pairedPhoneCount = plain (told c (Count (length (phonesOf (c .paired)))))
+answerTo c held listPairedPhones = phones (phonesAnswer c)
+answerTo c held bleMaxBondedPhones = plain (told c (Count (c .settings .bonded)))
+answerTo c held carHasValidatedPhone = plain (told c (yesNo (carHasValidated c)))
+answerTo c held blePeer = peer (peerAnswer c)
+answerTo c held (phoneAccessState clock) = phoneAccess (phoneAccessAnswer c clock)
+answerTo c held validationMethods = methods (methodsAnswer c)
+answerTo c held (sessionFor phone clock) = plain (told c (sessionShown c phone clock))
+answerTo c held currentValidationChallenge = challenge (challengeAnswer c held)
+answerTo c held encodePhoneValidations = saved (recordAnswer c)

@@ -1,0 +1,76 @@
+// What the queries answer, on a core in range or out of it (25). No query changes the gate or raises a signal.
+
+use can_access::Approval;
+use phone_trust::Trust;
+use phones::PhoneId;
+use phones::PhoneList;
+use saved_record::SavedRecord;
+use state::Answer;
+use state::Challenge;
+use state::Kind;
+use state::Method;
+
+// can_read_write_approval.
+pub struct ApprovalAnswer {
+    pub answer: Answer,
+    pub approval: Approval,
+}
+
+// CanAccessState: the platform confirmed, the car confirmed, the approval, the dev lock, logging, read-only.
+pub struct AccessAnswer {
+    pub answer: Answer,
+    pub platform: bool,
+    pub car: bool,
+    pub approval: Approval,
+    pub devlock: bool,
+    pub unlocked: bool,
+    pub logging: bool,
+    pub readonly: bool,
+}
+
+// list_paired_phones.
+pub struct PhonesAnswer {
+    pub answer: Answer,
+    pub phones: PhoneList,
+}
+
+// phone_trust_level.
+pub struct TrustAnswer {
+    pub answer: Answer,
+    pub trust: Trust,
+}
+
+// The connected phone, and whether it is validated.
+pub struct PeerAnswer {
+    pub answer: Answer,
+    pub peer: PhoneId,
+    pub validated: bool,
+}
+
+// PhoneAccessState; `session` is `Session` or `Nothing`.
+pub struct PhoneAccessAnswer {
+    pub answer: Answer,
+    pub trust: Trust,
+    pub validated: bool,
+    pub session: Answer,
+}
+
+// PhoneValidationMethods: each method in its order, and whether it can start now.
+pub struct MethodsAnswer {
+    pub answer: Answer,
+    pub list: [Method; 8],
+    pub available: [bool; 8],
+    pub count: usize,
+}
+
+// current_validation_challenge.
+pub struct ChallengeAnswer {
+    pub answer: Answer,
+    pub challenge: Challenge,
+}
+
+// encode_phone_validations.
+pub struct RecordAnswer {
+    pub answer: Answer,
+    pub stored: SavedRecord,
+}

@@ -1,0 +1,7 @@
+// The identity probe, and the check of every outbound frame (can_probe.rs).
+
+// The place of the first entry of a probe that is a given frame and was not sent yet.
+pub enum Unsent {
+    At(usize),
+    Nothing,
+}

@@ -1,0 +1,123 @@
+-- The gate: every call of document 01, and the one definition of what each gives, `step`.
+use mathlib.Core.Bool.{Bool, true, false, cond}
+use mathlib.Core.List.{List, []}
+use Prim.Native.Nat.{ℕ}
+use lib.Dec.{ltb}
+use lib.ListN.{length}
+use Rattle.frames.specs.declared.CanFrame.{CanFrame}
+use Rattle.frames.specs.declared.ProbeFrame.{ProbeFrame}
+use Rattle.frames.specs.declared.TxClass.{TxClass}
+use Rattle.draw.specs.Draw.{drawn}
+use Rattle.text.specs.Text.{isText, right}
+use Rattle.state.specs.declared.Car.{Car}
+use Rattle.state.specs.declared.Method.{Method}
+use Rattle.state.specs.declared.Settings.{Settings}
+use Rattle.state.specs.declared.Core.{Core}
+use Rattle.state.specs.declared.Gate.{Gate}
+use Rattle.state.specs.declared.Signals.{Signals}
+use Rattle.state.specs.declared.Said.{Said}
+use Rattle.state.specs.declared.Outcome.{Outcome}
+use Rattle.state.specs.Replies.{noSignals, noCode, served, fill}
+use Rattle.can_access.specs.Changes as Access
+use Rattle.phone_trust.specs.Changes as Trust
+use Rattle.can_probe.specs.Calls as Probe
+use Rattle.validation.specs.Calls as Validation
+use Rattle.answers.specs.Query.{Query, Reply, plain, answerTo}
+use Rattle.gate.specs.New.{newGate}
+
+-- ---- the calls
+
+-- the calls that change the gate and take nothing that one phone may keep from another
+pub data Change : Type 0 where
+  cancelValidation : (phone : List ℕ) (clock : ℕ) → Change
+  completeValidationAction : (session clock : ℕ) → Change
+  tickValidation : (clock : ℕ) → Change
+  addPairedPhone removePairedPhone : (id : List ℕ) → Change
+  clearPairedPhones : Change
+  forgetPhoneValidation : (id : List ℕ) → Change
+  prunePhoneValidations : Change
+  setBlePeer : (id : List ℕ) → Change
+  restorePhoneValidations : (bytes : List ℕ) → Change
+  approveCanReadWrite revokeCanReadWriteApproval : Change
+  restoreCanReadWriteApproval : (approval : Car) → Change
+  setCanDevWriteUnlocked : (unlocked : Bool) → Change
+  declareProductionBuild confirmCarIdentity revokeCarIdentity : Change
+  confirmCarFingerprint : (fingerprint : List ℕ) → Change
+  setCanReadOnly : (enabled : Bool) → Change
+  openIdentityProbe : (bus : ℕ) (frames : List ProbeFrame) (count clock : ℕ) → Change
+  closeIdentityProbe : Change
+  allowCanTx : (bus : ℕ) (frame : CanFrame) (class : TxClass) (owner : List ℕ) (clock : ℕ) → Change
+  heardCanFrame : (bus clock : ℕ) → Change
+  notePlatformId : (number : ℕ) → Change
+  noteCanLogging : (on : Bool) → Change
+  noteCanFdBus : (bus : ℕ) (on : Bool) → Change
+  noteMethodAvailable noteMethodCanContinue : (place : ℕ) (on : Bool) → Change
+
+pub data Call : Type 0 where
+  newGateCall : (settings : Settings) (methods : List Method) (count : ℕ) → Call
+  startValidation : (phone method : List ℕ) (clock : ℕ) (random : List ℕ) → Call
+  submitValidationCode : (phone typed : List ℕ) (clock : ℕ) → Call
+  change : Change → Call
+  ask : Query → Call
+
+-- ---- what a call gives
+
+pub record Given : Type 0 where
+  pub answer : Reply
+  pub signals : Signals
+  pub gate : Gate
+
+abbrev pub given : Outcome → Given
+given o = record { answer = plain (o .answer); signals = o .signals; gate = o .gate }
+
+-- a query changes nothing and raises nothing
+abbrev pub asked : Gate → Reply → Given
+asked g r = record { answer = r; signals = noSignals; gate = g }
+
+-- ---- each change, on a core in range
+
+unfoldable pub changed : Core → Change → Said
+changed c (cancelValidation phone clock) = Validation.cancel c phone clock
+changed c (completeValidationAction session clock) = Validation.complete c session clock
+changed c (tickValidation clock) = Validation.tick c clock
+changed c (addPairedPhone id) = Trust.pair c id
+changed c (removePairedPhone id) = Trust.unpair c id
+changed c clearPairedPhones = Trust.clear c
+changed c (forgetPhoneValidation id) = Trust.forget c id
+changed c prunePhoneValidations = Trust.prune c
+changed c (setBlePeer id) = Trust.setPeer c id
+changed c (restorePhoneValidations bytes) = Trust.restore c bytes
+changed c approveCanReadWrite = Access.approve c
+changed c revokeCanReadWriteApproval = Access.revokeApproval c
+changed c (restoreCanReadWriteApproval approval) = Access.restoreApproval c approval
+changed c (setCanDevWriteUnlocked unlocked) = Access.setDevUnlocked c unlocked
+changed c declareProductionBuild = Access.declareProduction c
+changed c confirmCarIdentity = Access.confirmPlatform c
+changed c revokeCarIdentity = Access.revokePlatform c
+changed c (confirmCarFingerprint fingerprint) = Access.confirmFingerprint c fingerprint
+changed c (setCanReadOnly enabled) = Access.setReadOnly c enabled
+changed c (openIdentityProbe bus frames count clock) = Probe.openProbe c bus frames count clock
+changed c closeIdentityProbe = Probe.closeProbe c
+changed c (allowCanTx bus frame class owner clock) = Probe.allow c bus frame class owner clock
+changed c (heardCanFrame bus clock) = Probe.heard c bus clock
+changed c (notePlatformId number) = Access.notePlatform c number
+changed c (noteCanLogging on) = Access.noteLogging c on
+changed c (noteCanFdBus bus on) = Access.noteFdBus c bus on
+changed c (noteMethodAvailable place on) = Validation.noteAvailable c place on
+changed c (noteMethodCanContinue place on) = Validation.noteContinue c place on
+
+-- ---- the one definition
+
+-- some random byte is lent
+abbrev pub isLent : List ℕ → Bool
+isLent random = ltb 0 (length random)
+
+unfoldable pub step : Gate → Call → Given
+step g (newGateCall settings methods count) = given (newGate settings methods count)
+step g (startValidation phone method clock random) =
+    let d = drawn random (g .core .settings .digits) in
+    given (fill (g .code) (d .code) (served (g .core) (Validation.start (g .core) phone method clock (isLent random) (d .ok))))
+step g (submitValidationCode phone typed clock) =
+    given (fill (g .code) noCode (served (g .core) (Validation.submit (g .core) phone clock (isText typed) (right (g .code) (g .core .settings .digits) typed))))
+step g (change k) = given (fill (g .code) noCode (served (g .core) (changed (g .core) k)))
+step g (ask q) = asked g (answerTo (g .core) (g .code) q)

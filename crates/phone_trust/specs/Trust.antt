@@ -1,0 +1,32 @@
+-- Who is paired, who is validated (pairing.rs, phone_trust.rs).
+use mathlib.Core.Bool.{Bool, true, false, cond, not, _&&_, _||_}
+use mathlib.Core.List.{List, []}
+use Prim.Native.Nat.{ℕ}
+use lib.Dec.{eqb}
+use lib.ListN.{length}
+use Rattle.arrays.specs.Arrays.{sameBytes}
+use Rattle.phones.specs.Phones.{phonesOf, contains, anyIn, idBytes}
+use Rattle.state.specs.declared.Core.{Core}
+use Rattle.can_access.specs.Policy.{fingerprintConfirmed, isIdentified}
+use Rattle.phone_trust.specs.declared.Trust.{Trust}
+use Rattle.phone_trust.specs.declared.Trust.the-variants.{NotBonded, Bonded, Validated}
+
+-- is_paired
+unfoldable pub isPaired : Core → List ℕ → Bool
+isPaired c id = contains id (phonesOf (c .paired))
+
+-- the validations are of the car identified now
+unfoldable pub ofThisCar : Core → Bool
+ofThisCar c = isIdentified (c .policy .identity) (c .validations .car)
+
+-- is_phone_validated: not empty, paired, and listed for the car identified now
+unfoldable pub isValidated : Core → List ℕ → Bool
+isValidated c id = ofThisCar c && not (eqb (length id) 0) && isPaired c id && contains id (phonesOf (c .validations .phones))
+
+-- car_has_validated_phone
+unfoldable pub carHasValidated : Core → Bool
+carHasValidated c = ofThisCar c && anyIn (phonesOf (c .paired)) (phonesOf (c .validations .phones))
+
+-- phone_trust_level
+unfoldable pub trustOf : Core → List ℕ → Trust
+trustOf c id = cond (isPaired c id) (cond (isValidated c id) Validated Bonded) NotBonded

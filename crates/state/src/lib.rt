@@ -1,0 +1,258 @@
+// The state of the gate, by value: the source's statics as one struct. The digits of the drawn code stand outside `Core`,
+// and no operation on a `Core` is given them: it says by a `Mark` where digits go, and `fill` (specs/Replies.antt) puts them there.
+
+use frames::ProbeFrame;
+use phones::PhoneId;
+use phones::PhoneList;
+use saved_record::SavedRecord;
+
+// ValidationKind.
+pub enum Kind {
+    CodeEntry,
+    InCarAction,
+}
+
+// PhoneValidationStatus.
+pub enum Status {
+    InProgress,
+    Succeeded,
+    Failed,
+    Cancelled,
+    TimedOut,
+}
+
+// ValidationMethod. Its id is a byte string of at most 32 bytes, as a phone's is.
+pub struct Method {
+    pub id: PhoneId,
+    pub kind: Kind,
+    pub approval: bool,
+}
+
+// The constants of the source that a new gate is given; times in ms.
+pub struct Settings {
+    pub digits: usize,
+    pub tries: usize,
+    pub session: u64,
+    pub cooldown: u64,
+    pub keep: u64,
+    pub bonded: usize,
+}
+
+// The methods in their order, and what the host noted of each: may it start, may its session go on.
+pub struct Methods {
+    pub list: [Method; 8],
+    pub count: usize,
+    pub available: [bool; 8],
+    pub continues: [bool; 8],
+}
+
+// A car's digest, or none (and zeros).
+pub struct Car {
+    pub known: bool,
+    pub digest: [u8; 32],
+}
+
+// The two stages of a car's identity: the platform's number and whether it is confirmed, then the car.
+pub struct Identity {
+    pub platform: u32,
+    pub confirmed: bool,
+    pub car: Car,
+}
+
+// The owner's approval, the dev lock (unlocked or not) and whether this is a production build, which has no dev lock.
+pub struct Access {
+    pub approval: Car,
+    pub unlocked: bool,
+    pub production: bool,
+}
+
+// The vehicle's read-only flag, CAN logging, and which bus is CAN FD.
+pub struct Buses {
+    pub locked: bool,
+    pub logging: bool,
+    pub fd: [bool; 4],
+}
+
+// What can.rs and can_access.rs keep of the car and of who may write to it.
+pub struct Policy {
+    pub identity: Identity,
+    pub access: Access,
+    pub buses: Buses,
+}
+
+// Validations: a car and the phones validated in it; none exactly if the list is empty.
+pub struct Validations {
+    pub car: [u8; 32],
+    pub phones: PhoneList,
+}
+
+// Session of validation.rs, without its code.
+pub struct Session {
+    pub present: bool,
+    pub number: u32,
+    pub phone: PhoneId,
+    pub method: usize,
+    pub car: [u8; 32],
+    pub tries: usize,
+    pub deadline: u64,
+    pub status: Status,
+    pub ended: u64,
+}
+
+// State of validation.rs: the latest session, the end of the cooldown, the next session's number.
+pub struct Validation {
+    pub session: Session,
+    pub cooldown: u64,
+    pub next: u32,
+}
+
+// Window of can_probe.rs with the probe it was opened for; `sent` marks the frames that passed.
+pub struct Window {
+    pub present: bool,
+    pub bus: u8,
+    pub frames: [ProbeFrame; 4],
+    pub count: usize,
+    pub opened: u64,
+    pub relocks: u32,
+    pub sent: [bool; 4],
+}
+
+// The statics of can_probe.rs: the window, ATTEMPTS, RELOCKS, LAST_RX_MS.
+pub struct Probe {
+    pub window: Window,
+    pub attempts: u8,
+    pub relocks: u32,
+    pub marks: [u32; 4],
+}
+
+// Everything but the digits. `peer` is the connected phone, none exactly if its length is 0.
+pub struct Core {
+    pub settings: Settings,
+    pub methods: Methods,
+    pub policy: Policy,
+    pub paired: PhoneList,
+    pub validations: Validations,
+    pub peer: PhoneId,
+    pub validation: Validation,
+    pub probe: Probe,
+}
+
+pub struct Gate {
+    pub core: Core,
+    pub code: [u8; 9],
+}
+
+// PhoneValidationSession: what a session shows. `length`, `tries` are 0 unless its method is CodeEntry.
+pub struct SessionReply {
+    pub method: usize,
+    pub kind: Kind,
+    pub status: Status,
+    pub length: usize,
+    pub tries: usize,
+    pub seconds: u32,
+    pub cooldown: u32,
+}
+
+// What a call answers; `number` of specs/Answers.antt gives document 01's number of each refusal.
+pub enum Answer {
+    Done,
+    Yes,
+    No,
+    Nothing,
+    Count(usize),
+    Number(u32),
+    Reason(u8),
+    Session(SessionReply),
+    UnknownMethod,
+    CarNotIdentified,
+    CoolingDown(u32),
+    OtherPhoneSession,
+    MethodUnavailable,
+    MethodNotAvailableNow,
+    NoRandomSource,
+    NoSession,
+    NotCodeEntry,
+    WrongCode(SessionReply),
+    NoDevLock,
+    NotNeeded,
+    Logging,
+    BusAsleep,
+    Busy,
+    NoAttemptsLeft,
+    Invalid,
+    IdTooLong,
+    RandomSpent,
+    NotText,
+    ListFull,
+    Malformed,
+    TooLarge,
+    BadFrame,
+    BadSettings,
+}
+
+// CAN_READ_ONLY_WATCH.
+pub struct ReadOnlySignal {
+    pub sent: bool,
+    pub value: bool,
+}
+
+// APPROVAL_TO_STORE: a digest to store, or none: erase.
+pub struct ApprovalSignal {
+    pub sent: bool,
+    pub car: Car,
+}
+
+// VALIDATIONS_TO_STORE: the record to store; of length 0: erase.
+pub struct ValidationsSignal {
+    pub sent: bool,
+    pub stored: SavedRecord,
+}
+
+// ValidationChallenge: none, or the running session's number and method, and its digits. `length` is their number, 0 for
+// an in-car action.
+pub struct Challenge {
+    pub running: bool,
+    pub session: u32,
+    pub method: usize,
+    pub length: usize,
+    pub code: [u8; 9],
+}
+
+// CHALLENGE.
+pub struct ChallengeSignal {
+    pub sent: bool,
+    pub challenge: Challenge,
+}
+
+// The last value that a call sent on each channel: CAN_ACCESS_CHANGED, the availability's CHANGED, and those above.
+pub struct Signals {
+    pub access: bool,
+    pub availability: bool,
+    pub readonly: ReadOnlySignal,
+    pub approval: ApprovalSignal,
+    pub validations: ValidationsSignal,
+    pub challenge: ChallengeSignal,
+}
+
+// Where digits come from: there are none, the gate's, or those that this call drew.
+pub enum Mark {
+    Blank,
+    Kept,
+    Fresh,
+}
+
+// What an operation on a core says: `shows` marks the digits of the challenge, `code` those of the gate.
+pub struct Said {
+    pub answer: Answer,
+    pub signals: Signals,
+    pub shows: Mark,
+    pub core: Core,
+    pub code: Mark,
+}
+
+// What a call gives.
+pub struct Outcome {
+    pub answer: Answer,
+    pub signals: Signals,
+    pub gate: Gate,
+}
