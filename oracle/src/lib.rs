@@ -1,0 +1,18 @@
+//! The oracle: the access gate's Rust source, run call by call from a script.
+//!
+//! `items` and `calls` read and write scripts (REPLAY.md), `gate` runs a call on the source, `added` holds what
+//! document 01 adds around it (ADDED.md), `queries` the calls that change nothing, `answer` what is printed, `state`
+//! the dump of the source's statics, `wrong` deliberate mistakes for testing the comparison itself.
+
+pub mod added;
+pub mod answer;
+pub mod calls;
+pub mod gate;
+pub mod generate;
+pub mod hex;
+pub mod host;
+pub mod items;
+pub mod queries;
+pub mod replay;
+pub mod state;
+pub mod wrong;
