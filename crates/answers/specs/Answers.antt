@@ -12,22 +12,24 @@ use Rattle.saved_record.specs.declared.SavedRecord.{SavedRecord}
 use Rattle.state.specs.declared.Method.{Method}
 use Rattle.state.specs.declared.Methods.{Methods}
 use Rattle.state.specs.declared.Session.{Session}
+use Rattle.state.specs.declared.Policy.{Policy}
 use Rattle.state.specs.declared.Challenge.{Challenge}
 use Rattle.state.specs.declared.Core.{Core}
 use Rattle.state.specs.declared.Answer.{Answer}
 use Rattle.state.specs.declared.Answer.the-variants as Answer
 use Rattle.state.specs.declared.Answer.the-variants.{Done, Nothing, BadSettings}
-use Rattle.state.specs.Range.{inRange, isRunning, inProgress, codeInProgress, noMethod}
+use Rattle.state.specs.Running.{isRunning, inProgress, codeInProgress, noMethod}
+use Rattle.range.specs.Range.{inRange}
 use Rattle.state.specs.Replies.{noRecord, noChallenge}
-use Rattle.can_access.specs.declared.Approval.{Approval}
-use Rattle.can_access.specs.declared.Approval.the-variants.{NotApproved}
-use Rattle.can_access.specs.Policy.{fingerprintConfirmed, devLock, devUnlocked, isReadOnly, approvalOf}
+use Rattle.policy.specs.declared.Approval.{Approval}
+use Rattle.policy.specs.declared.Approval.the-variants.{NotApproved}
+use Rattle.policy.specs.Policy.{fingerprintConfirmed, devLock, devUnlocked, isReadOnly, approvalOf}
 use Rattle.can_access.specs.Changes.{yesNo}
 use Rattle.phone_trust.specs.declared.Trust.{Trust}
 use Rattle.phone_trust.specs.declared.Trust.the-variants.{NotBonded}
 use Rattle.phone_trust.specs.Trust.{isValidated, carHasValidated, trustOf}
 use Rattle.phone_trust.specs.Changes.{recordFor}
-use Rattle.validation.specs.Session.{replyOf, isOf, lostReadWrite, noteAt}
+use Rattle.session.specs.Session.{replyOf, isOf, lostReadWrite, noteAt}
 use Rattle.answers.specs.declared.ApprovalAnswer.{ApprovalAnswer}
 use Rattle.answers.specs.declared.AccessAnswer.{AccessAnswer}
 use Rattle.answers.specs.declared.PhonesAnswer.{PhonesAnswer}
@@ -52,20 +54,23 @@ approvalAnswer c =
     (record { answer = BadSettings; approval = NotApproved })
 
 -- can_access_state
+abbrev pub accessOf : Policy → AccessAnswer
+accessOf p = record {
+  answer = Done;
+  platform = p .identity .confirmed;
+  car = fingerprintConfirmed (p .identity);
+  approval = approvalOf (p .identity) (p .access);
+  devlock = devLock (p .access);
+  unlocked = devUnlocked (p .access);
+  logging = p .buses .logging;
+  readonly = isReadOnly p;
+}
+
+abbrev pub noAccessState : AccessAnswer
+noAccessState = record { answer = BadSettings; platform = false; car = false; approval = NotApproved; devlock = false; unlocked = false; logging = false; readonly = false }
+
 unfoldable pub accessAnswer : Core → AccessAnswer
-accessAnswer c =
-    cond (inRange c)
-    (record {
-      answer = Done;
-      platform = c .policy .identity .confirmed;
-      car = fingerprintConfirmed (c .policy .identity);
-      approval = approvalOf (c .policy .identity) (c .policy .access);
-      devlock = devLock (c .policy .access);
-      unlocked = devUnlocked (c .policy .access);
-      logging = c .policy .buses .logging;
-      readonly = isReadOnly (c .policy);
-    })
-    (record { answer = BadSettings; platform = false; car = false; approval = NotApproved; devlock = false; unlocked = false; logging = false; readonly = false })
+accessAnswer c = cond (inRange c) (accessOf (c .policy)) noAccessState
 
 -- ---- phones
 
@@ -90,12 +95,13 @@ recordAnswer c =
 abbrev pub noPeer : Answer → PeerAnswer
 noPeer a = record { answer = a; peer = idOf []; validated = false }
 
+abbrev pub peerOf : Core → PeerAnswer
+peerOf c =
+    cond (eqb (c .peer .len) 0) (noPeer Nothing)
+    (record { answer = Done; peer = idOf (idBytes (c .peer)); validated = isValidated c (idBytes (c .peer)) })
+
 unfoldable pub peerAnswer : Core → PeerAnswer
-peerAnswer c =
-    cond (inRange c)
-    (cond (eqb (c .peer .len) 0) (noPeer Nothing)
-    (record { answer = Done; peer = idOf (idBytes (c .peer)); validated = isValidated c (idBytes (c .peer)) }))
-    (noPeer BadSettings)
+peerAnswer c = cond (inRange c) (peerOf c) (noPeer BadSettings)
 
 -- ---- sessions
 
@@ -114,17 +120,18 @@ sessionShown c phone clock =
 abbrev pub noAccess : Answer → PhoneAccessAnswer
 noAccess a = record { answer = a; trust = NotBonded; validated = false; session = Nothing }
 
-unfoldable pub phoneAccessAnswer : Core → ℕ → PhoneAccessAnswer
-phoneAccessAnswer c clock =
-    cond (inRange c)
-    (cond (eqb (c .peer .len) 0) (noAccess Nothing)
+abbrev pub phoneAccessOf : Core → ℕ → PhoneAccessAnswer
+phoneAccessOf c clock =
+    cond (eqb (c .peer .len) 0) (noAccess Nothing)
     (record {
       answer = Done;
       trust = trustOf c (idBytes (c .peer));
       validated = carHasValidated c;
       session = sessionShown c (idBytes (c .peer)) clock;
-    }))
-    (noAccess BadSettings)
+    })
+
+unfoldable pub phoneAccessAnswer : Core → ℕ → PhoneAccessAnswer
+phoneAccessAnswer c clock = cond (inRange c) (phoneAccessOf c clock) (noAccess BadSettings)
 
 -- ---- methods
 
@@ -141,10 +148,13 @@ abbrev pub methodsOf : Answer → List Method → List Bool → MethodsAnswer
 methodsOf a ms bs = record { answer = a; list = padded 8 noMethod ms; available = padded 8 false bs; count = length ms }
 
 -- validation_methods
-unfoldable pub methodsAnswer : Core → MethodsAnswer
-methodsAnswer c =
+abbrev pub methodsNow : Core → MethodsAnswer
+methodsNow c =
     let used = take (c .methods .count) (c .methods .list) in
-    cond (inRange c) (methodsOf Done used (canStartFrom c 0 used)) (methodsOf BadSettings [] [])
+    methodsOf Done used (canStartFrom c 0 used)
+
+unfoldable pub methodsAnswer : Core → MethodsAnswer
+methodsAnswer c = cond (inRange c) (methodsNow c) (methodsOf BadSettings [] [])
 
 -- ---- the challenge
 
@@ -159,9 +169,13 @@ challengeOf c held =
     let n = cond (codeInProgress (c .methods) s) (c .settings .digits) 0 in
     record { running = true; session = s .number; method = s .method; length = n; code = shownDigits held n }
 
+abbrev pub noChallengeNow : Answer → ChallengeAnswer
+noChallengeNow a = record { answer = a; challenge = noChallenge }
+
 -- current_validation_challenge
+abbrev pub challengeNow : Core → List ℕ → ChallengeAnswer
+challengeNow c held =
+    cond (inProgress (c .validation .session)) (record { answer = Done; challenge = challengeOf c held }) (noChallengeNow Nothing)
+
 unfoldable pub challengeAnswer : Core → List ℕ → ChallengeAnswer
-challengeAnswer c held =
-    cond (inRange c)
-    (cond (inProgress (c .validation .session)) (record { answer = Done; challenge = challengeOf c held }) (record { answer = Nothing; challenge = noChallenge }))
-    (record { answer = BadSettings; challenge = noChallenge })
+challengeAnswer c held = cond (inRange c) (challengeNow c held) (noChallengeNow BadSettings)

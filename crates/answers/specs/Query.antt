@@ -7,7 +7,8 @@ use Rattle.phones.specs.Phones.{phonesOf}
 use Rattle.state.specs.declared.Core.{Core}
 use Rattle.state.specs.declared.Answer.{Answer}
 use Rattle.state.specs.declared.Answer.the-variants.{Count, Number, Reason}
-use Rattle.can_access.specs.Policy.{fingerprintConfirmed, devLock, devUnlocked, isReadOnly, isFdBus, isBusReadOnly, reason}
+use Rattle.state.specs.Answers.{Numbered, numbered}
+use Rattle.policy.specs.Policy.{fingerprintConfirmed, devLock, devUnlocked, isReadOnly, isFdBus, isBusReadOnly, reason}
 use Rattle.can_access.specs.Changes.{yesNo}
 use Rattle.phone_trust.specs.Trust.{isPaired, isValidated, carHasValidated}
 use Rattle.can_probe.specs.Window.{isListenOnly}
@@ -46,6 +47,19 @@ pub data Reply : Type 0 where
   methods : MethodsAnswer → Reply
   challenge : ChallengeAnswer → Reply
   saved : RecordAnswer → Reply
+
+-- document 01's number and values of the answer that a reply is or begins with
+abbrev pub numberedReply : Reply → Numbered
+numberedReply (plain a) = numbered a
+numberedReply (approval a) = numbered (a .answer)
+numberedReply (access a) = numbered (a .answer)
+numberedReply (phones a) = numbered (a .answer)
+numberedReply (trust a) = numbered (a .answer)
+numberedReply (peer a) = numbered (a .answer)
+numberedReply (phoneAccess a) = numbered (a .answer)
+numberedReply (methods a) = numbered (a .answer)
+numberedReply (challenge a) = numbered (a .answer)
+numberedReply (saved a) = numbered (a .answer)
 
 unfoldable pub answerTo : Core → List ℕ → Query → Reply
 answerTo c held isCanReadOnly = plain (told c (yesNo (isReadOnly (c .policy))))

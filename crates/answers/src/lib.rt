@@ -1,9 +1,9 @@
 // What the queries answer, on a core in range or out of it (25). No query changes the gate or raises a signal.
 
-use can_access::Approval;
 use phone_trust::Trust;
 use phones::PhoneId;
 use phones::PhoneList;
+use policy::Approval;
 use saved_record::SavedRecord;
 use state::Answer;
 use state::Challenge;

@@ -20,7 +20,7 @@ use Rattle.state.specs.declared.Answer.the-variants.{Done, Yes, No, CarNotIdent
 use Rattle.state.specs.declared.Said.{Said}
 use Rattle.state.specs.Parts.{withPolicy, withValidations, withProbe}
 use Rattle.state.specs.Replies.{noCar, readOnlyChanged, approvalChanged, approvalCleared, leave, reply}
-use Rattle.can_access.specs.Policy.{fingerprintConfirmed, isReadOnly}
+use Rattle.policy.specs.Policy.{fingerprintConfirmed, isReadOnly}
 
 -- ---- a policy with one part changed
 
@@ -130,7 +130,7 @@ confirmFingerprint c fingerprint =
     cond (ltb 4096 (length fingerprint)) (leave c TooLarge)
     (cond (empty fingerprint) (leave c No)
     (cond (c .policy .identity .confirmed)
-    (changed c Yes (withIdentity (c .policy) (identityOf (c .policy .identity) true (record { known = true; digest = carDigest (c .policy .identity .platform) fingerprint .digest }))))
+    (changed c Yes (withIdentity (c .policy) (identityOf (c .policy .identity) (c .policy .identity .confirmed) (record { known = true; digest = carDigest (c .policy .identity .platform) fingerprint .digest }))))
     (leave c No)))
 
 -- ---- the vehicle's flag

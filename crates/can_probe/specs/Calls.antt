@@ -17,9 +17,9 @@ use Rattle.state.specs.declared.Answer.{Answer}
 use Rattle.state.specs.declared.Answer.the-variants.{Done, Yes, No, Invalid, NotNeeded, Logging, BusAsleep, Busy, NoAttemptsLeft, BadFrame}
 use Rattle.state.specs.declared.Said.{Said}
 use Rattle.state.specs.Parts.{withProbe}
-use Rattle.state.specs.Range.{within}
+use Rattle.range.specs.Range.{within}
 use Rattle.state.specs.Replies.{readOnlyChanged, leave, reply}
-use Rattle.can_access.specs.Policy.{isReadOnly, isFdBus, isBusReadOnly}
+use Rattle.policy.specs.Policy.{isReadOnly, isFdBus, isBusReadOnly}
 use Rattle.can_access.specs.Changes.{yesNo}
 use Rattle.phone_trust.specs.Trust.{isValidated}
 use Rattle.can_probe.specs.declared.Unsent.{Unsent}

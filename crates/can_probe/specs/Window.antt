@@ -14,7 +14,7 @@ use Rattle.state.specs.declared.Identity.{Identity}
 use Rattle.state.specs.declared.Policy.{Policy}
 use Rattle.state.specs.declared.Probe.{Probe}
 use Rattle.state.specs.declared.Window.{Window}
-use Rattle.can_access.specs.Policy.{fingerprintConfirmed, isBusReadOnly}
+use Rattle.policy.specs.Policy.{fingerprintConfirmed, isBusReadOnly}
 use Rattle.can_probe.specs.declared.Unsent.{Unsent}
 use Rattle.can_probe.specs.declared.Unsent.the-variants.{At, Nothing}
 

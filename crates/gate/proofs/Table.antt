@@ -29,15 +29,16 @@ use Rattle.state.specs.declared.Answer.{Answer}
 use Rattle.state.specs.declared.Answer.the-variants as Answer
 use Rattle.state.specs.declared.Answer.the-variants.{Done}
 use Rattle.state.specs.Answers.{number}
-use Rattle.state.specs.Range as Range
+use Rattle.state.specs.Running as Running
+use Rattle.range.specs.Range as Range
 use Rattle.state.specs.Replies as Replies
-use Rattle.can_access.specs.Policy as Policy
+use Rattle.policy.specs.Policy as Policy
 use Rattle.can_access.specs.Changes as Access
 use Rattle.phone_trust.specs.Trust as Trust
 use Rattle.phone_trust.specs.Changes as Phones
 use Rattle.can_probe.specs.Window as Window
 use Rattle.can_probe.specs.Calls as Probe
-use Rattle.validation.specs.Session as Session
+use Rattle.session.specs.Session as Session
 use Rattle.validation.specs.Calls as Validation
 use Rattle.answers.specs.Answers as Answers
 use Rattle.answers.specs.Query as Query
@@ -209,7 +210,7 @@ unfolding Range.within Range.settingsFit Range.allOf Range.printable Range.metho
 openState1 = tt
 
 unfoldable openState2 : Unit {0}
-unfolding Range.methodAt Range.inProgress Range.codeInProgress Range.triesFit Range.sessionFits Range.windowFits
+unfolding Running.methodAt Running.inProgress Running.codeInProgress Range.triesFit Range.sessionFits Range.windowFits
 openState2 = tt
 
 unfoldable openState3 : Unit {0}
@@ -221,7 +222,7 @@ unfolding Replies.approvalChanged Replies.approvalCleared Replies.storeValidatio
 openState4 = tt
 
 unfoldable openState5 : Unit {0}
-unfolding Replies.leave Replies.reply Replies.finish Replies.served Replies.fill
+unfolding Replies.leave Replies.reply Replies.finish Range.served Replies.fill
 openState5 = tt
 
 unfoldable openAccess1 : Unit {0}

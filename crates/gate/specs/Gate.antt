@@ -1,4 +1,5 @@
 -- The gate: every call of document 01, and the one definition of what each gives, `step`.
+use mathlib.Core.Path.{_≡_}
 use mathlib.Core.Bool.{Bool, true, false, cond}
 use mathlib.Core.List.{List, []}
 use Prim.Native.Nat.{ℕ}
@@ -17,12 +18,14 @@ use Rattle.state.specs.declared.Gate.{Gate}
 use Rattle.state.specs.declared.Signals.{Signals}
 use Rattle.state.specs.declared.Said.{Said}
 use Rattle.state.specs.declared.Outcome.{Outcome}
-use Rattle.state.specs.Replies.{noSignals, noCode, served, fill}
+use Rattle.state.specs.Answers.{Numbered, numbered}
+use Rattle.state.specs.Replies.{noSignals, noCode, fill}
+use Rattle.range.specs.Range.{served}
 use Rattle.can_access.specs.Changes as Access
 use Rattle.phone_trust.specs.Changes as Trust
 use Rattle.can_probe.specs.Calls as Probe
 use Rattle.validation.specs.Calls as Validation
-use Rattle.answers.specs.Query.{Query, Reply, plain, answerTo}
+use Rattle.answers.specs.Query.{Query, Reply, plain, numberedReply, answerTo}
 use Rattle.gate.specs.New.{newGate}
 
 -- ---- the calls
@@ -62,17 +65,19 @@ pub data Call : Type 0 where
 
 -- ---- what a call gives
 
+-- the answer by document 01's number and values, and as it is returned
 pub record Given : Type 0 where
+  pub numbered : Numbered
   pub answer : Reply
   pub signals : Signals
   pub gate : Gate
 
 abbrev pub given : Outcome → Given
-given o = record { answer = plain (o .answer); signals = o .signals; gate = o .gate }
+given o = record { numbered = numbered (o .answer); answer = plain (o .answer); signals = o .signals; gate = o .gate }
 
 -- a query changes nothing and raises nothing
 abbrev pub asked : Gate → Reply → Given
-asked g r = record { answer = r; signals = noSignals; gate = g }
+asked g r = record { numbered = numberedReply r; answer = r; signals = noSignals; gate = g }
 
 -- ---- each change, on a core in range
 
@@ -121,3 +126,7 @@ step g (submitValidationCode phone typed clock) =
     given (fill (g .code) noCode (served (g .core) (Validation.submit (g .core) phone clock (isText typed) (right (g .code) (g .core .settings .digits) typed))))
 step g (change k) = given (fill (g .code) noCode (served (g .core) (changed (g .core) k)))
 step g (ask q) = asked g (answerTo (g .core) (g .code) q)
+
+-- New gate gives this outcome, whatever gate was before it
+abbrev pub NewFrom : Outcome → Settings → List Method → ℕ → Type 0
+NewFrom o settings methods count = (g : Gate) → given o ≡ step g (newGateCall settings methods count)

@@ -18,7 +18,8 @@ use Rattle.state.specs.declared.Gate.{Gate}
 use Rattle.state.specs.declared.Answer.{Answer}
 use Rattle.state.specs.declared.Answer.the-variants.{Done, BadSettings}
 use Rattle.state.specs.declared.Outcome.{Outcome}
-use Rattle.state.specs.Range.{settingsFit, methodsFit, noMethod}
+use Rattle.state.specs.Running.{noMethod}
+use Rattle.range.specs.Range.{settingsFit, methodsFit}
 use Rattle.state.specs.Replies.{noCar, noSignals, noCode}
 use Rattle.can_access.specs.Changes.{noValidations}
 use Rattle.can_probe.specs.Window.{noWindow}

@@ -1,1 +1,333 @@
-// The access gate. Its definition, `step` over every call, is specs/Gate.antt; the functions of the calls are to come.
+// The access gate: one function for each call that changes it; the queries are in `queries`. State by value in; answer,
+// signals and state by value out. Each promise is an equation with `step` of specs/Gate.antt, for every gate that is lent.
+pub mod fresh;
+
+use frames::CanFrame;
+use frames::ProbeFrame;
+use frames::TxClass;
+use state::Answer;
+use state::Car;
+use state::Core;
+use state::Gate;
+use state::Method;
+use state::Outcome;
+use state::Said;
+use state::Settings;
+ghost use mathlib.Core.Path.{_≡_};
+ghost use Rattle.state.specs.Replies.{noCode, fill};
+ghost use Rattle.range.specs.Range as Range;
+ghost use Rattle.gate.specs.Gate.{NewFrom, startValidation, submitValidationCode, change, given, step};
+ghost use Rattle.gate.specs.Gate.{cancelValidation, completeValidationAction, tickValidation, addPairedPhone, removePairedPhone, clearPairedPhones, forgetPhoneValidation, prunePhoneValidations, setBlePeer, restorePhoneValidations, approveCanReadWrite, revokeCanReadWriteApproval, restoreCanReadWriteApproval, setCanDevWriteUnlocked, declareProductionBuild, confirmCarIdentity, revokeCarIdentity, confirmCarFingerprint, setCanReadOnly, openIdentityProbe, closeIdentityProbe, allowCanTx, heardCanFrame, notePlatformId, noteCanLogging, noteCanFdBus, noteMethodAvailable, noteMethodCanContinue};
+
+// 25 first: a gate out of range stays as it is.
+fn served(core: Core, said: Said) -> Said
+    ensures { λ r. ⌜ r ≡ Range.served core said ⌝ }
+{
+    if range::in_range(core) {
+        return said;
+    }
+    state::replies::leave(core, Answer::BadSettings)
+}
+
+// What an operation on the core says, with digits where they belong: the gate's, or those drawn now.
+fn filled(g: Gate, drawn: [u8; 9], said: Said) -> Outcome
+    ensures { λ r. ⌜ r ≡ fill (g .code) drawn (Range.served (g .core) said) ⌝ }
+{
+    let core = g.core;
+    let held = g.code;
+    let all = served(core, said);
+    state::replies::fill(held, drawn, all)
+}
+
+fn answered(g: Gate, said: Said) -> Outcome
+    ensures { λ r. ⌜ r ≡ fill (g .code) noCode (Range.served (g .core) said) ⌝ }
+{
+    let none = [0u8; 9];
+    filled(g, none, said)
+}
+
+// ---- new gate
+
+pub fn new_gate(settings: Settings, methods: [Method; 8], count: usize) -> Outcome
+    ensures { λ r. ⌜ NewFrom r settings methods count ⌝ }
+{
+    fresh::new_gate(settings, methods, count)
+}
+
+// ---- the session
+
+// `random`: lent random bytes; only a start that comes to its draw reads them.
+pub fn start_validation(g: Gate, phone: &[u8], method: &[u8], clock: u64, random: &[u8]) -> Outcome
+    ensures { λ r. ⌜ given r ≡ step g (startValidation (now (phone .entry)) (now (method .entry)) clock (now (random .entry))) ⌝ }
+{
+    let core = g.core;
+    let drawn = draw::draw(random, core.settings.digits);
+    let said = validation::start::start_validation(
+        core,
+        phone,
+        method,
+        clock,
+        0 < random.len(),
+        drawn.ok,
+    );
+    let fresh = drawn.code;
+    filled(g, fresh, said)
+}
+
+pub fn submit_validation_code(g: Gate, phone: &[u8], typed: &[u8], clock: u64) -> Outcome
+    ensures { λ r. ⌜ given r ≡ step g (submitValidationCode (now (phone .entry)) (now (typed .entry)) clock) ⌝ }
+{
+    let core = g.core;
+    let held = g.code;
+    let is_text = text::is_text(typed);
+    let is_right = text::is_right(held, core.settings.digits, typed);
+    let said = validation::submit::submit_validation_code(core, phone, clock, is_text, is_right);
+    answered(g, said)
+}
+
+pub fn cancel_validation(g: Gate, phone: &[u8], clock: u64) -> Outcome
+    ensures { λ r. ⌜ given r ≡ step g (change (cancelValidation (now (phone .entry)) clock)) ⌝ }
+{
+    let core = g.core;
+    let said = validation::calls::cancel_validation(core, phone, clock);
+    answered(g, said)
+}
+
+pub fn complete_validation_action_at(g: Gate, number: u32, clock: u64) -> Outcome
+    ensures { λ r. ⌜ given r ≡ step g (change (completeValidationAction number clock)) ⌝ }
+{
+    let core = g.core;
+    let said = validation::calls::complete_validation_action_at(core, number, clock);
+    answered(g, said)
+}
+
+pub fn tick_validation(g: Gate, clock: u64) -> Outcome
+    ensures { λ r. ⌜ given r ≡ step g (change (tickValidation clock)) ⌝ }
+{
+    let core = g.core;
+    let said = validation::calls::tick_validation(core, clock);
+    answered(g, said)
+}
+
+// ---- pairings, validations, the connected phone
+
+pub fn add_paired_phone(g: Gate, id: &[u8]) -> Outcome
+    ensures { λ r. ⌜ given r ≡ step g (change (addPairedPhone (now (id .entry)))) ⌝ }
+{
+    let core = g.core;
+    let said = phone_trust::changes::add_paired_phone(core, id);
+    answered(g, said)
+}
+
+pub fn remove_paired_phone(g: Gate, id: &[u8]) -> Outcome
+    ensures { λ r. ⌜ given r ≡ step g (change (removePairedPhone (now (id .entry)))) ⌝ }
+{
+    let core = g.core;
+    let said = phone_trust::changes::remove_paired_phone(core, id);
+    answered(g, said)
+}
+
+pub fn clear_paired_phones(g: Gate) -> Outcome
+    ensures { λ r. ⌜ given r ≡ step g (change clearPairedPhones) ⌝ }
+{
+    let core = g.core;
+    let said = phone_trust::changes::clear_paired_phones(core);
+    answered(g, said)
+}
+
+pub fn forget_phone_validation(g: Gate, id: &[u8]) -> Outcome
+    ensures { λ r. ⌜ given r ≡ step g (change (forgetPhoneValidation (now (id .entry)))) ⌝ }
+{
+    let core = g.core;
+    let said = phone_trust::changes::forget_phone_validation(core, id);
+    answered(g, said)
+}
+
+pub fn prune_phone_validations(g: Gate) -> Outcome
+    ensures { λ r. ⌜ given r ≡ step g (change prunePhoneValidations) ⌝ }
+{
+    let core = g.core;
+    let said = phone_trust::changes::prune_phone_validations(core);
+    answered(g, said)
+}
+
+// An empty id is none.
+pub fn set_ble_peer(g: Gate, id: &[u8]) -> Outcome
+    ensures { λ r. ⌜ given r ≡ step g (change (setBlePeer (now (id .entry)))) ⌝ }
+{
+    let core = g.core;
+    let said = phone_trust::changes::set_ble_peer(core, id);
+    answered(g, said)
+}
+
+pub fn restore_phone_validations(g: Gate, bytes: &[u8]) -> Outcome
+    ensures { λ r. ⌜ given r ≡ step g (change (restorePhoneValidations (now (bytes .entry)))) ⌝ }
+{
+    let core = g.core;
+    let said = phone_trust::changes::restore_phone_validations(core, bytes);
+    answered(g, said)
+}
+
+// ---- approval, dev lock, identity
+
+pub fn approve_can_read_write(g: Gate) -> Outcome
+    ensures { λ r. ⌜ given r ≡ step g (change approveCanReadWrite) ⌝ }
+{
+    let core = g.core;
+    let said = can_access::approve_can_read_write(core);
+    answered(g, said)
+}
+
+pub fn revoke_can_read_write_approval(g: Gate) -> Outcome
+    ensures { λ r. ⌜ given r ≡ step g (change revokeCanReadWriteApproval) ⌝ }
+{
+    let core = g.core;
+    let said = can_access::revoke_can_read_write_approval(core);
+    answered(g, said)
+}
+
+pub fn restore_can_read_write_approval(g: Gate, approval: Car) -> Outcome
+    ensures { λ r. ⌜ given r ≡ step g (change (restoreCanReadWriteApproval approval)) ⌝ }
+{
+    let core = g.core;
+    let said = can_access::restore_can_read_write_approval(core, approval);
+    answered(g, said)
+}
+
+pub fn set_can_dev_write_unlocked(g: Gate, unlocked: bool) -> Outcome
+    ensures { λ r. ⌜ given r ≡ step g (change (setCanDevWriteUnlocked unlocked)) ⌝ }
+{
+    let core = g.core;
+    let said = can_access::set_can_dev_write_unlocked(core, unlocked);
+    answered(g, said)
+}
+
+pub fn declare_production_build(g: Gate) -> Outcome
+    ensures { λ r. ⌜ given r ≡ step g (change declareProductionBuild) ⌝ }
+{
+    let core = g.core;
+    let said = can_access::declare_production_build(core);
+    answered(g, said)
+}
+
+pub fn confirm_car_identity(g: Gate) -> Outcome
+    ensures { λ r. ⌜ given r ≡ step g (change confirmCarIdentity) ⌝ }
+{
+    let core = g.core;
+    let said = can_access::confirm_car_identity(core);
+    answered(g, said)
+}
+
+pub fn revoke_car_identity(g: Gate) -> Outcome
+    ensures { λ r. ⌜ given r ≡ step g (change revokeCarIdentity) ⌝ }
+{
+    let core = g.core;
+    let said = can_access::revoke_car_identity(core);
+    answered(g, said)
+}
+
+pub fn confirm_car_fingerprint(g: Gate, fingerprint: &[u8]) -> Outcome
+    ensures { λ r. ⌜ given r ≡ step g (change (confirmCarFingerprint (now (fingerprint .entry)))) ⌝ }
+{
+    let core = g.core;
+    let said = can_access::confirm_car_fingerprint(core, fingerprint);
+    answered(g, said)
+}
+
+pub fn set_can_read_only(g: Gate, enabled: bool) -> Outcome
+    ensures { λ r. ⌜ given r ≡ step g (change (setCanReadOnly enabled)) ⌝ }
+{
+    let core = g.core;
+    let said = can_access::set_can_read_only(core, enabled);
+    answered(g, said)
+}
+
+// ---- the probe and outbound frames
+
+pub fn open_identity_probe(
+    g: Gate,
+    bus: u8,
+    frames: [ProbeFrame; 4],
+    count: usize,
+    clock: u64,
+) -> Outcome
+    ensures { λ r. ⌜ given r ≡ step g (change (openIdentityProbe bus frames count clock)) ⌝ }
+{
+    let core = g.core;
+    let said = can_probe::calls::open_identity_probe(core, bus, frames, count, clock);
+    answered(g, said)
+}
+
+pub fn close_identity_probe(g: Gate) -> Outcome
+    ensures { λ r. ⌜ given r ≡ step g (change closeIdentityProbe) ⌝ }
+{
+    let core = g.core;
+    let said = can_probe::calls::close_identity_probe(core);
+    answered(g, said)
+}
+
+// `owner` is the phone that a command is for; for a platform frame it is not looked at.
+pub fn allow_can_tx(
+    g: Gate,
+    bus: u8,
+    frame: CanFrame,
+    class: TxClass,
+    owner: &[u8],
+    clock: u64,
+) -> Outcome
+    ensures { λ r. ⌜ given r ≡ step g (change (allowCanTx bus frame class (now (owner .entry)) clock)) ⌝ }
+{
+    let core = g.core;
+    let said = can_probe::calls::allow_can_tx(core, bus, frame, class, owner, clock);
+    answered(g, said)
+}
+
+pub fn heard_can_frame(g: Gate, bus: u8, clock: u64) -> Outcome
+    ensures { λ r. ⌜ given r ≡ step g (change (heardCanFrame bus clock)) ⌝ }
+{
+    let core = g.core;
+    let said = can_probe::calls::heard_can_frame(core, bus, clock);
+    answered(g, said)
+}
+
+// ---- host notes
+
+pub fn note_platform_id(g: Gate, number: u32) -> Outcome
+    ensures { λ r. ⌜ given r ≡ step g (change (notePlatformId number)) ⌝ }
+{
+    let core = g.core;
+    let said = can_access::note_platform_id(core, number);
+    answered(g, said)
+}
+
+pub fn note_can_logging(g: Gate, on: bool) -> Outcome
+    ensures { λ r. ⌜ given r ≡ step g (change (noteCanLogging on)) ⌝ }
+{
+    let core = g.core;
+    let said = can_access::note_can_logging(core, on);
+    answered(g, said)
+}
+
+pub fn note_can_fd_bus(g: Gate, bus: u8, on: bool) -> Outcome
+    ensures { λ r. ⌜ given r ≡ step g (change (noteCanFdBus bus on)) ⌝ }
+{
+    let core = g.core;
+    let said = can_access::note_can_fd_bus(core, bus, on);
+    answered(g, said)
+}
+
+pub fn note_method_available(g: Gate, place: usize, on: bool) -> Outcome
+    ensures { λ r. ⌜ given r ≡ step g (change (noteMethodAvailable place on)) ⌝ }
+{
+    let core = g.core;
+    let said = validation::calls::note_method_available(core, place, on);
+    answered(g, said)
+}
+
+pub fn note_method_can_continue(g: Gate, place: usize, on: bool) -> Outcome
+    ensures { λ r. ⌜ given r ≡ step g (change (noteMethodCanContinue place on)) ⌝ }
+{
+    let core = g.core;
+    let said = validation::calls::note_method_can_continue(core, place, on);
+    answered(g, said)
+}

@@ -7,7 +7,7 @@ use lib.ListN.{length}
 use Rattle.arrays.specs.Arrays.{sameBytes}
 use Rattle.phones.specs.Phones.{phonesOf, contains, anyIn, idBytes}
 use Rattle.state.specs.declared.Core.{Core}
-use Rattle.can_access.specs.Policy.{fingerprintConfirmed, isIdentified}
+use Rattle.policy.specs.Policy.{fingerprintConfirmed, isIdentified}
 use Rattle.phone_trust.specs.declared.Trust.{Trust}
 use Rattle.phone_trust.specs.declared.Trust.the-variants.{NotBonded, Bonded, Validated}
 

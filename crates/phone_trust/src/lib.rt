@@ -1,4 +1,6 @@
 // Pairings, validations and the connected phone (pairing.rs, phone_trust.rs).
+pub mod changes;
+pub mod levels;
 
 // PhoneTrustLevel.
 pub enum Trust {

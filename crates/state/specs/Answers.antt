@@ -1,8 +1,10 @@
--- Document 01's number of each answer; 0 for one that is no refusal.
+-- Document 01's number and values of each answer.
 use Prim.Native.Nat.{ℕ}
+use Rattle.state.specs.declared.SessionReply.{SessionReply}
 use Rattle.state.specs.declared.Answer.{Answer}
 use Rattle.state.specs.declared.Answer.the-variants.{Done, Yes, No, Nothing, Count, Number, Reason, Session, UnknownMethod, CarNotIdentified, CoolingDown, OtherPhoneSession, MethodUnavailable, MethodNotAvailableNow, NoRandomSource, NoSession, NotCodeEntry, WrongCode, NoDevLock, NotNeeded, Logging, BusAsleep, Busy, NoAttemptsLeft, Invalid, IdTooLong, RandomSpent, NotText, ListFull, Malformed, TooLarge, BadFrame, BadSettings}
 
+-- 0 for one that is no refusal
 abbrev pub number : Answer → ℕ
 number Done = 0
 number Yes = 0
@@ -37,3 +39,51 @@ number Malformed = 22
 number TooLarge = 23
 number BadFrame = 24
 number BadSettings = 25
+
+-- what stands beside the number: nothing; done, yes, no or none; or a value
+pub data Values : Type 0 where
+  noValue done yes no none : Values
+  count platform reason seconds : ℕ → Values
+  session : SessionReply → Values
+
+abbrev pub values : Answer → Values
+values Done = done
+values Yes = yes
+values No = no
+values Nothing = none
+values (Count n) = count n
+values (Number n) = platform n
+values (Reason n) = reason n
+values (Session r) = session r
+values UnknownMethod = noValue
+values CarNotIdentified = noValue
+values (CoolingDown s) = seconds s
+values OtherPhoneSession = noValue
+values MethodUnavailable = noValue
+values MethodNotAvailableNow = noValue
+values NoRandomSource = noValue
+values NoSession = noValue
+values NotCodeEntry = noValue
+values (WrongCode r) = session r
+values NoDevLock = noValue
+values NotNeeded = noValue
+values Logging = noValue
+values BusAsleep = noValue
+values Busy = noValue
+values NoAttemptsLeft = noValue
+values Invalid = noValue
+values IdTooLong = noValue
+values RandomSpent = noValue
+values NotText = noValue
+values ListFull = noValue
+values Malformed = noValue
+values TooLarge = noValue
+values BadFrame = noValue
+values BadSettings = noValue
+
+pub record Numbered : Type 0 where
+  pub number : ℕ
+  pub values : Values
+
+abbrev pub numbered : Answer → Numbered
+numbered a = record { number = number a; values = values a }

@@ -1,4 +1,4 @@
 pub mod Answers
 pub mod Parts
-pub mod Range
+pub mod Running
 pub mod Replies

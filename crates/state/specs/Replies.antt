@@ -8,7 +8,6 @@ use Rattle.state.specs.declared.Car.{Car}
 use Rattle.state.specs.declared.Core.{Core}
 use Rattle.state.specs.declared.Gate.{Gate}
 use Rattle.state.specs.declared.Answer.{Answer}
-use Rattle.state.specs.declared.Answer.the-variants.{BadSettings}
 use Rattle.state.specs.declared.ReadOnlySignal.{ReadOnlySignal}
 use Rattle.state.specs.declared.ApprovalSignal.{ApprovalSignal}
 use Rattle.state.specs.declared.ValidationsSignal.{ValidationsSignal}
@@ -19,7 +18,6 @@ use Rattle.state.specs.declared.Mark.{Mark}
 use Rattle.state.specs.declared.Mark.the-variants.{Blank, Kept, Fresh}
 use Rattle.state.specs.declared.Said.{Said}
 use Rattle.state.specs.declared.Outcome.{Outcome}
-use Rattle.state.specs.Range.{inRange}
 
 -- ---- channels: A CAN_ACCESS_CHANGED, V the availability's CHANGED, R CAN_READ_ONLY_WATCH, P APPROVAL_TO_STORE,
 -- S VALIDATIONS_TO_STORE, C CHALLENGE
@@ -109,10 +107,6 @@ reply c a s = record { answer = a; signals = s; shows = Blank; core = c; code = 
 -- end_session: session.code = None
 unfoldable pub finish : Core → Answer → Signals → Said
 finish c a s = record { answer = a; signals = s; shows = Blank; core = c; code = Blank }
-
--- 01, New gate: a gate out of range gets 25 first, and stays unchanged
-unfoldable pub served : Core → Said → Said
-served c o = cond (inRange c) o (leave c BadSettings)
 
 -- ---- the digits are put in their places
 

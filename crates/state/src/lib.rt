@@ -1,5 +1,8 @@
 // The state of the gate, by value: the source's statics as one struct. The digits of the drawn code stand outside `Core`,
-// and no operation on a `Core` is given them: it says by a `Mark` where digits go, and `fill` (specs/Replies.antt) puts them there.
+// and no operation on a `Core` is given them: it says by a `Mark` where digits go, and `fill` puts them there.
+pub mod parts;
+pub mod replies;
+pub mod running;
 
 use frames::ProbeFrame;
 use phones::PhoneId;

@@ -23,11 +23,12 @@ use Rattle.state.specs.declared.Gate.{Gate}
 use Rattle.state.specs.declared.Answer.{Answer}
 use Rattle.state.specs.declared.Answer.the-variants as Answer
 use Rattle.state.specs.Parts.{withPolicy}
-use Rattle.state.specs.Range as Range
+use Rattle.state.specs.Running as Running
+use Rattle.range.specs.Range as Range
 use Rattle.state.specs.Replies as Replies
-use Rattle.can_access.specs.Policy as Policy
+use Rattle.policy.specs.Policy as Policy
 use Rattle.phone_trust.specs.Changes as Phones
-use Rattle.validation.specs.Session as Session
+use Rattle.session.specs.Session as Session
 use Rattle.validation.specs.Calls as Validation
 use Rattle.answers.specs.declared.ChallengeAnswer.{ChallengeAnswer}
 use Rattle.answers.specs.Query as Query
@@ -137,7 +138,7 @@ pub record Examples : Type 0 where
   pub tallied : sessions 3 0 ready three ≡ tallies
 
 pub examples : Examples
-unfolding padded put sameBytes allInRange contains idBytes idInRange idOf listInRange listOf phonesOf someOf kept appended madeId tooLong digits drawLimit drawn firstBelow group decode encode encodeAll Utf8.within isText right trim trimFront trimmed white encoded field fields recordOf Range.within Range.settingsFit Range.allOf Range.printable Range.methodFits Range.allFit Range.methodsFit Range.methodAt Range.inProgress Range.codeInProgress Range.triesFit Range.sessionFits Range.windowFits Range.phonesFit Range.inRange Replies.challengeChanged Replies.validated Replies.leave Replies.reply Replies.finish Replies.served Replies.fill Policy.fingerprintConfirmed Policy.isIdentified Policy.isReadOnly Phones.recordFor Phones.told Phones.isFull Phones.validate Session.saturatingAdd Session.secondsTo Session.secondsOf Session.replyOf Session.endedAs Session.triedOnce Session.isOf Session.lostReadWrite Session.noteAt Session.cannotGoOn Session.lapseOf Session.placeFrom Session.placeOf Session.nextNumber Validation.checked Validation.endSession Validation.runsFor Validation.startChecks Validation.newSession Validation.challengeFor Validation.begin Validation.startAt Validation.start Validation.succeededCore Validation.succeed Validation.fullFor Validation.failedCore Validation.triedCore Validation.wrong Validation.rightCode Validation.judge Validation.submitted Validation.submit New.newMethods New.newCore step begins judgedWrong blanked hideGate codeRuns
+unfolding padded put sameBytes allInRange contains idBytes idInRange idOf listInRange listOf phonesOf someOf kept appended madeId tooLong digits drawLimit drawn firstBelow group decode encode encodeAll Utf8.within isText right trim trimFront trimmed white encoded field fields recordOf Range.within Range.settingsFit Range.allOf Range.printable Range.methodFits Range.allFit Range.methodsFit Running.methodAt Running.inProgress Running.codeInProgress Range.triesFit Range.sessionFits Range.windowFits Range.phonesFit Range.inRange Replies.challengeChanged Replies.validated Replies.leave Replies.reply Replies.finish Range.served Replies.fill Policy.fingerprintConfirmed Policy.isIdentified Policy.isReadOnly Phones.recordFor Phones.told Phones.isFull Phones.validate Session.saturatingAdd Session.secondsTo Session.secondsOf Session.replyOf Session.endedAs Session.triedOnce Session.isOf Session.lostReadWrite Session.noteAt Session.cannotGoOn Session.lapseOf Session.placeFrom Session.placeOf Session.nextNumber Validation.checked Validation.endSession Validation.runsFor Validation.startChecks Validation.newSession Validation.challengeFor Validation.begin Validation.startAt Validation.start Validation.succeededCore Validation.succeed Validation.fullFor Validation.failedCore Validation.triedCore Validation.wrong Validation.rightCode Validation.judge Validation.submitted Validation.submit New.newMethods New.newCore step begins judgedWrong blanked hideGate codeRuns
 examples = record {
   two =
       next (starts phone method 1_000 random-1234 random-0007 (λ d. (refl, refl)))
@@ -204,6 +205,7 @@ any-other (Query.saved a) = (λ e. refl, refl)
 
 -- what two outcomes that look alike have in common
 pub record OnlyDigits (o p : Given) : Type 0 where
+  pub numbered : o .numbered ≡ p .numbered
   pub answer : isChallenge (o .answer) ≡ false → o .answer ≡ p .answer
   pub challengeAnswer : (a b : ChallengeAnswer) → o .answer ≡ Query.challenge a → p .answer ≡ Query.challenge b → (a .answer ≡ b .answer) × SameChallenge (a .challenge) (b .challenge)
   pub access : o .signals .access ≡ p .signals .access
@@ -234,6 +236,7 @@ only-digits o p e =
     let n = o .gate .core .settings .digits in
     let b : blanked n (o .gate .code) ≡ blanked n (p .gate .code) = (λ i. e i .gate .code) ∙ sym (ap (λ (x : Core). blanked (x .settings .digits) (p .gate .code)) c) in
     record {
+      numbered = λ i. e i .numbered;
       answer = same-answer (o .answer) (p .answer) (λ i. e i .answer);
       challengeAnswer = λ a b x y. same-challenge-answer a b (ap hideReply (sym x) ∙ (λ i. e i .answer) ∙ ap hideReply y);
       access = λ i. e i .signals .access;

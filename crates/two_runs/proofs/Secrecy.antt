@@ -16,17 +16,20 @@ use Rattle.state.specs.declared.Session.{Session}
 use Rattle.state.specs.declared.Mark.{Mark}
 use Rattle.state.specs.declared.Mark.the-variants.{Blank, Kept, Fresh}
 use Rattle.state.specs.declared.Said.{Said}
-use Rattle.state.specs.Range.{isCode, inRange, inProgress, methodAt, codeInProgress}
-use Rattle.state.specs.Replies.{noCode, noChallenge, noSignals, codeAt, leave, served, fill}
+use Rattle.state.specs.Running.{isCode, inProgress, methodAt, codeInProgress}
+use Rattle.range.specs.Range.{inRange}
+use Rattle.state.specs.Replies.{noCode, noChallenge, noSignals, codeAt, leave, fill}
+use Rattle.range.specs.Range.{served}
 use Rattle.phone_trust.specs.Changes.{told}
-use Rattle.validation.specs.declared.Lapse.{Lapse}
-use Rattle.validation.specs.declared.Lapse.the-variants.{Stays, Ends}
-use Rattle.validation.specs.Session.{isOf, lapseOf, placeOf}
+use Rattle.session.specs.declared.Lapse.{Lapse}
+use Rattle.session.specs.declared.Lapse.the-variants.{Stays, Ends}
+use Rattle.session.specs.Session.{isOf, lapseOf, placeOf}
 use Rattle.validation.specs.Calls.{Check, checked, clear, ticking, tick, runsFor, startChecks, startAs, startAt, start, draws, judgeAs, submitted, submit}
 use Rattle.answers.specs.declared.ChallengeAnswer.{ChallengeAnswer}
 use Rattle.answers.specs.Answers.{shownDigits, challengeOf, challengeAnswer}
 use Rattle.answers.specs.Query as Query
-use Rattle.answers.specs.Query.{Query, answerTo}
+use Rattle.answers.specs.Query.{Query, Reply, numberedReply, answerTo}
+use Rattle.state.specs.Answers.{numbered}
 use Rattle.gate.specs.Gate as Gate
 use Rattle.gate.specs.Gate.{Change, Call, Given, given, isLent, changed, step}
 use Rattle.two_runs.specs.Demand.{blanked, hideGate, hideChallenge, hideSignals, hideReply, seen, after, run, codeRuns, comesToDraw, judges, Alike, starts, submits, news, changes, asks, TwoRuns, end, next, EqualButDigits, AlikeGates, StayAlike, over, place, LookAlike}
@@ -120,6 +123,7 @@ module _ (n : ℕ) (held held′ drew drew′ : List ℕ) (h : blanked n held �
       let k : o .core .settings .digits ≡ n = ap (λ (x : Settings). x .digits) (f .settings) ∙ e in
       let g : blanked (o .core .settings .digits) (codeAt held drew (o .code)) ≡ blanked (o .core .settings .digits) (codeAt held′ drew′ (o .code)) = rw k (placed (o .code)) in
       λ i. record {
+        numbered = numbered (o .answer);
         answer = Query.plain (o .answer);
         signals = record {
           access = o .signals .access;
@@ -270,6 +274,19 @@ answer-as c held held′ e (Query.sessionFor phone clock) = refl
 answer-as c held held′ e Query.currentValidationChallenge = challenge-as c held held′ e
 answer-as c held held′ e Query.encodePhoneValidations = refl
 
+-- hiding keeps document 01's number and values
+number-kept : (r : Reply) → numberedReply (hideReply r) ≡ numberedReply r
+number-kept (Query.plain a) = refl
+number-kept (Query.approval a) = refl
+number-kept (Query.access a) = refl
+number-kept (Query.phones a) = refl
+number-kept (Query.trust a) = refl
+number-kept (Query.peer a) = refl
+number-kept (Query.phoneAccess a) = refl
+number-kept (Query.methods a) = refl
+number-kept (Query.challenge a) = refl
+number-kept (Query.saved a) = refl
+
 -- ---- the list
 
 module _ (g h : Gate) (e : EqualButDigits g h) where
@@ -283,7 +300,8 @@ module _ (g h : Gate) (e : EqualButDigits g h) where
   unfolding step seen
   asked-look q =
       let a = answer-as (g .core) (g .code) (h .code) (code-same g h e) q ∙ λ i. hideReply (answerTo (core-same g h e i) (h .code) q) in
-      λ i. record { answer = a i; signals = hideSignals noSignals; gate = e i }
+      let n = sym (number-kept (answerTo (g .core) (g .code) q)) ∙ ap numberedReply a ∙ number-kept (answerTo (h .core) (h .code) q) in
+      λ i. record { numbered = n i; answer = a i; signals = hideSignals noSignals; gate = e i }
 
   look : {c d : Call} → Alike g h c d → seen (step g c) ≡ seen (step h d)
   unfolding step

@@ -14,10 +14,10 @@ use Rattle.state.specs.declared.Answer.the-variants as Answer
 use Rattle.state.specs.declared.Mark.the-variants.{Blank, Fresh}
 use Rattle.state.specs.declared.Said.{Said}
 use Rattle.state.specs.Answers.{number}
-use Rattle.state.specs.Range.{isRunning, inProgress, codeInProgress, methodAt}
+use Rattle.state.specs.Running.{isRunning, inProgress, codeInProgress, methodAt}
 use Rattle.state.specs.Replies.{noChallenge, leave, reply, finish, challengeChanged}
 use Rattle.phone_trust.specs.Changes.{told}
-use Rattle.validation.specs.Session.{endedAs, triedOnce, isOf, placeOf}
+use Rattle.session.specs.Session.{endedAs, triedOnce, isOf, placeOf}
 use Rattle.validation.specs.Calls.{Check, checked, endSession, runsFor, startChecks, newSession, challengeFor, begin, startAs, startAt, start, succeed, succeededCore, fullFor, failedCore, triedCore, wrong, wrongAnswer, rightCode, judge, judgeAs, submitted, submit}
 use Rattle.two_runs.specs.Demand.{codeRuns}
 use Rattle.two_runs.proofs.Turns.{Fit, Turn, triesLeft, turn-beside, turn-leave, turn-ends, ticking-as}

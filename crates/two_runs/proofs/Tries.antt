@@ -15,8 +15,10 @@ use Rattle.state.specs.declared.Gate.{Gate}
 use Rattle.state.specs.declared.Answer.the-variants.{Done, BadSettings}
 use Rattle.state.specs.declared.Said.{Said}
 use Rattle.state.specs.Answers.{number}
-use Rattle.state.specs.Range.{settingsFit, methodsFit, inProgress, codeInProgress, inRange}
-use Rattle.state.specs.Replies.{noCode, leave, served, fill}
+use Rattle.state.specs.Running.{inProgress, codeInProgress}
+use Rattle.range.specs.Range.{settingsFit, methodsFit, inRange}
+use Rattle.state.specs.Replies.{noCode, leave, fill}
+use Rattle.range.specs.Range.{served}
 use Rattle.validation.specs.Calls.{start, submit}
 use Rattle.gate.specs.New.{newMethods, newCore, leastSettings, madeGate, newGate}
 use Rattle.gate.specs.Gate as Gate

@@ -20,15 +20,16 @@ use Rattle.state.specs.declared.Signals.{Signals}
 use Rattle.state.specs.declared.Mark.{Mark}
 use Rattle.state.specs.declared.Mark.the-variants.{Blank, Kept, Fresh}
 use Rattle.state.specs.declared.Said.{Said}
-use Rattle.state.specs.Range.{within, settingsFit, methodsFit, phonesFit, triesFit, sessionFits, inRange, isCode, isRunning, inProgress, codeInProgress, methodAt}
+use Rattle.state.specs.Running.{isCode, isRunning, inProgress, codeInProgress, methodAt}
+use Rattle.range.specs.Range.{within, settingsFit, methodsFit, phonesFit, triesFit, sessionFits, inRange}
 use Rattle.state.specs.Replies.{leave, reply, finish}
 use Rattle.can_access.specs.Changes as Access
 use Rattle.phone_trust.specs.Changes as Trust
 use Rattle.can_probe.specs.declared.Unsent.{Unsent}
 use Rattle.can_probe.specs.declared.Unsent.the-variants.{At, Nothing}
 use Rattle.can_probe.specs.Calls as Probe
-use Rattle.validation.specs.declared.Lapse.the-variants.{Stays, Ends}
-use Rattle.validation.specs.Session.{endedAs, lapseOf, cannotGoOn}
+use Rattle.session.specs.declared.Lapse.the-variants.{Stays, Ends}
+use Rattle.session.specs.Session.{endedAs, lapseOf, cannotGoOn}
 use Rattle.validation.specs.Calls as Validation
 use Rattle.gate.specs.Gate.{Change, changed}
 use Rattle.gate.specs.Gate as Gate

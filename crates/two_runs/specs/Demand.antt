@@ -11,13 +11,13 @@ use Rattle.state.specs.declared.Challenge.{Challenge}
 use Rattle.state.specs.declared.Signals.{Signals}
 use Rattle.state.specs.declared.Method.{Method}
 use Rattle.state.specs.declared.Settings.{Settings}
-use Rattle.state.specs.Answers.{number}
-use Rattle.state.specs.Range.{inRange, codeInProgress}
+use Rattle.state.specs.Running.{codeInProgress}
+use Rattle.range.specs.Range.{inRange}
 use Rattle.draw.specs.Draw.{drawn}
 use Rattle.text.specs.Text.{isText, right}
 use Rattle.validation.specs.Calls.{draws, tick}
 use Rattle.answers.specs.Query as Query
-use Rattle.answers.specs.Query.{Query, Reply}
+use Rattle.answers.specs.Query.{Query, Reply, numberedReply}
 use Rattle.gate.specs.Gate.{Change, Call, newGateCall, startValidation, submitValidationCode, change, ask, Given, isLent, step}
 
 -- ---- what is left out: the digits, and not their number
@@ -59,7 +59,7 @@ hideReply (Query.saved a) = Query.saved a
 
 -- a call's whole outcome without the digits
 unfoldable pub seen : Given → Given
-seen o = record { answer = hideReply (o .answer); signals = hideSignals (o .signals); gate = hideGate (o .gate) }
+seen o = record { numbered = o .numbered; answer = hideReply (o .answer); signals = hideSignals (o .signals); gate = hideGate (o .gate) }
 
 -- ---- runs
 
@@ -116,16 +116,7 @@ pub data TwoRuns : Gate → Gate → List Call → List Call → Type 0 where
 
 -- document 01's number of the answer that a reply is or begins with; 0 for one that is no refusal
 abbrev pub numberOf : Reply → ℕ
-numberOf (Query.plain a) = number a
-numberOf (Query.approval a) = number (a .answer)
-numberOf (Query.access a) = number (a .answer)
-numberOf (Query.phones a) = number (a .answer)
-numberOf (Query.trust a) = number (a .answer)
-numberOf (Query.peer a) = number (a .answer)
-numberOf (Query.phoneAccess a) = number (a .answer)
-numberOf (Query.methods a) = number (a .answer)
-numberOf (Query.challenge a) = number (a .answer)
-numberOf (Query.saved a) = number (a .answer)
+numberOf r = numberedReply r .number
 
 -- a code is judged wrong where submit answers 10
 unfoldable pub judgedWrong : Call → Reply → ℕ

@@ -23,13 +23,13 @@ use Rattle.state.specs.declared.Mark.{Mark}
 use Rattle.state.specs.declared.Mark.the-variants.{Blank, Kept, Fresh}
 use Rattle.state.specs.declared.Said.{Said}
 use Rattle.state.specs.Parts.{withMethods, withValidations, withValidation}
-use Rattle.state.specs.Range.{isCode, methodAt, inProgress}
+use Rattle.state.specs.Running.{isCode, methodAt, inProgress}
 use Rattle.state.specs.Replies.{noChallenge, phoneAccessChanged, challengeChanged, validated, leave, reply, finish}
-use Rattle.can_access.specs.Policy.{fingerprintConfirmed}
+use Rattle.policy.specs.Policy.{fingerprintConfirmed}
 use Rattle.phone_trust.specs.Changes.{recordFor, told, isFull, validate}
-use Rattle.validation.specs.declared.Lapse.{Lapse}
-use Rattle.validation.specs.declared.Lapse.the-variants.{Stays, Ends}
-use Rattle.validation.specs.Session.{saturatingAdd, secondsTo, replyOf, endedAs, triedOnce, isOf, lostReadWrite, noteAt, lapseOf, placeOf, nextNumber}
+use Rattle.session.specs.declared.Lapse.{Lapse}
+use Rattle.session.specs.declared.Lapse.the-variants.{Stays, Ends}
+use Rattle.session.specs.Session.{saturatingAdd, secondsTo, replyOf, endedAs, triedOnce, isOf, lostReadWrite, noteAt, lapseOf, placeOf, nextNumber}
 
 -- ---- checks in the order written: the first that meets the call refuses it and changes nothing
 

@@ -1,9 +1,5 @@
-// Phone validation sessions (validation.rs).
-
-use state::Status;
-
-// What a tick does to the session.
-pub enum Lapse {
-    Stays,
-    Ends(Status),
-}
+// The calls of a phone validation session (validation.rs).
+pub mod calls;
+pub mod ends;
+pub mod start;
+pub mod submit;

@@ -1,0 +1,21 @@
+use Rattle.can_access.specs.Changes.{restoreApproval}
+use borrow.Author.Needs.{needs}
+use Rattle.can_access.proofs.restore_can_read_write_approval.Statement.{statement}
+use Rattle.can_access.proofs.restore_can_read_write_approval.Tie as tie
+
+known-or-none-requires : tie.Need-known-or-none-requires
+known-or-none-requires c κs = search needs
+
+with-access-requires : tie.Need-with-access-requires
+with-access-requires c κs = search needs
+
+changed-requires : tie.Need-changed-requires
+changed-requires c κs = search needs
+
+returns : tie.Need-returns
+unfolding restoreApproval
+returns c = rw (← c .before .before .before .known-or-none .ensures, ← c .before .with-access .ensures, ← c .changed .ensures)
+
+pub restore-can-read-write-approval-spec : {M : Type 1} → statement M
+restore-can-read-write-approval-spec =
+    tie.close (tie.spec known-or-none-requires with-access-requires changed-requires returns)

@@ -1,0 +1,25 @@
+use Rattle.can_access.specs.Changes.{setDevUnlocked}
+use borrow.Author.Needs.{needs}
+use Rattle.can_access.proofs.set_can_dev_write_unlocked.Statement.{statement}
+use Rattle.can_access.proofs.set_can_dev_write_unlocked.Tie as tie
+
+leave-requires : tie.Need-leave-requires
+leave-requires c κs = search needs
+
+returns : tie.Need-returns
+unfolding setDevUnlocked
+returns c = rw (c .leave .ensures, c .before .if1 .taken)
+
+with-access-requires : tie.Need-with-access-requires
+with-access-requires c κs = search needs
+
+changed-requires : tie.Need-changed-requires
+changed-requires c κs = search needs
+
+returns-2 : tie.Need-returns-2
+unfolding setDevUnlocked
+returns-2 c = rw (c .changed .ensures, c .before .with-access .ensures, c .before .before .if1 .left)
+
+pub set-can-dev-write-unlocked-spec : {M : Type 1} → statement M
+set-can-dev-write-unlocked-spec =
+    tie.close (tie.spec leave-requires returns with-access-requires changed-requires returns-2)

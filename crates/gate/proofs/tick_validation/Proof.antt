@@ -1,0 +1,17 @@
+use borrow.Author.Needs.{needs}
+use Rattle.gate.specs.Gate.{changed, step}
+use Rattle.gate.proofs.tick_validation.Statement.{statement}
+use Rattle.gate.proofs.tick_validation.Tie as tie
+
+tick-validation-requires : tie.Need-tick-validation-requires
+tick-validation-requires c κs = search needs
+
+answered-requires : tie.Need-answered-requires
+answered-requires c κs = search needs
+
+returns : tie.Need-returns
+unfolding step changed
+returns c = rw (c .answered .ensures, c .before .tick-validation .ensures)
+
+pub tick-validation-spec : {M : Type 1} → statement M
+tick-validation-spec = tie.close (tie.spec tick-validation-requires answered-requires returns)

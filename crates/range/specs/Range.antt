@@ -1,0 +1,82 @@
+-- The range of a lent gate: what is outside gets 25 first from every call (01, "New gate").
+use mathlib.Core.Bool.{Bool, true, false, cond, _&&_}
+use mathlib.Core.List.{List, [], _∷_}
+use Prim.Native.Nat.{ℕ}
+use lib.Dec.{ltb}
+use lib.ListN.{take}
+use Rattle.phones.specs.Phones.{idBytes, idInRange, listInRange}
+use Rattle.state.specs.declared.Method.{Method}
+use Rattle.state.specs.declared.Settings.{Settings}
+use Rattle.state.specs.declared.Methods.{Methods}
+use Rattle.state.specs.declared.Session.{Session}
+use Rattle.state.specs.declared.Window.{Window}
+use Rattle.state.specs.declared.Core.{Core}
+use Rattle.state.specs.declared.Answer.the-variants.{BadSettings}
+use Rattle.state.specs.declared.Said.{Said}
+use Rattle.state.specs.Running.{codeInProgress}
+use Rattle.state.specs.Replies.{leave}
+
+-- x is from low to high
+unfoldable pub within : ℕ → ℕ → ℕ → Bool
+within low high x = cond (ltb x low) false (cond (ltb high x) false true)
+
+-- 01, New gate: the settings, times in ms
+unfoldable pub settingsFit : Settings → Bool
+settingsFit s =
+    within 1 9 (s .digits)
+    && within 1 20 (s .tries)
+    && within 1 86_400_000 (s .session)
+    && within 0 86_400_000 (s .cooldown)
+    && within 0 86_400_000 (s .keep)
+    && within 0 32 (s .bonded)
+
+-- whether a test passes on all of them
+unfoldable pub allOf : {A : Type 0} → (A → Bool) → List A → Bool
+allOf f [] = true
+allOf f (x ∷ xs) = cond (f x) (allOf f xs) false
+
+-- 01, New gate: bytes from 33 to 126
+unfoldable pub printable : List ℕ → Bool
+printable bs = allOf (within 33 126) bs
+
+-- 01, New gate: a method's id has 1 to 32 bytes
+unfoldable pub methodFits : Method → Bool
+methodFits m = within 1 32 (m .id .len) && printable (idBytes (m .id))
+
+-- all of these methods
+unfoldable pub allFit : List Method → Bool
+allFit ms = allOf methodFits ms
+
+-- 01, New gate: at most 8 methods; those past the count are not looked at
+unfoldable pub methodsFit : Methods → Bool
+methodsFit m = cond (ltb 8 (m .count)) false (allFit (take (m .count) (m .list)))
+
+-- 01, New gate: while a CodeEntry session is InProgress, its tries left are from 1 to the set number
+unfoldable pub triesFit : Settings → Methods → Session → Bool
+triesFit settings m s = cond (codeInProgress m s) (within 1 (settings .tries) (s .tries)) true
+
+-- of a session, ended ones too: the length of its phone's id, its method place, its tries
+unfoldable pub sessionFits : Settings → Methods → Session → Bool
+sessionFits settings m s =
+    cond (s .present) (idInRange (s .phone) && ltb (s .method) (m .count) && triesFit settings m s) true
+
+-- 01, Open probe: a window has 1 to 4 frames
+unfoldable pub windowFits : Window → Bool
+windowFits w = cond (w .present) (within 1 4 (w .count)) true
+
+-- 01, Lists: the counts and lengths of both lists, and the length of the peer's id
+unfoldable pub phonesFit : Core → Bool
+phonesFit c = listInRange (c .paired) && listInRange (c .validations .phones) && idInRange (c .peer)
+
+-- 01, New gate: no count, length, method place or setting is out of range
+unfoldable pub inRange : Core → Bool
+inRange c =
+    settingsFit (c .settings)
+    && methodsFit (c .methods)
+    && phonesFit c
+    && sessionFits (c .settings) (c .methods) (c .validation .session)
+    && windowFits (c .probe .window)
+
+-- 01, New gate: a gate out of range gets 25 first, and stays unchanged
+unfoldable pub served : Core → Said → Said
+served c o = cond (inRange c) o (leave c BadSettings)

@@ -1,0 +1,163 @@
+// The range of a lent gate: out of it every call answers 25.
+use state::Core;
+use state::Method;
+use state::Methods;
+use state::Session;
+use state::Settings;
+use state::Window;
+ghost use mathlib.Core.Path.{_≡_};
+ghost use Rattle.range.specs.Range as Range;
+ghost use Rattle.range.specs.Range.{settingsFit, methodFits, methodsFit, triesFit, sessionFits, windowFits, phonesFit, inRange};
+
+pub fn within(low: u64, high: u64, x: u64) -> bool
+    ensures { λ r. ⌜ r ≡ Range.within low high x ⌝ }
+{
+    if x < low {
+        return false;
+    }
+    if high < x {
+        return false;
+    }
+    true
+}
+
+pub fn settings_fit(s: Settings) -> bool
+    ensures { λ r. ⌜ r ≡ settingsFit s ⌝ }
+{
+    if within(1, 9, s.digits as u64) {
+        if within(1, 20, s.tries as u64) {
+            if within(1, 86_400_000, s.session) {
+                if within(0, 86_400_000, s.cooldown) {
+                    if within(0, 86_400_000, s.keep) {
+                        return within(0, 32, s.bonded as u64);
+                    }
+                }
+            }
+        }
+    }
+    false
+}
+
+// Every byte from 33 to 126.
+fn printable(s: &[u8]) -> bool
+    ensures { λ r. ⌜ r ≡ Range.printable (now (s .entry)) ⌝ }
+{
+    let mut i = 0;
+    while i < s.len() {
+        let b = s[i];
+        if b < 33 {
+            return false;
+        }
+        if 126 < b {
+            return false;
+        }
+        i += 1;
+    }
+    true
+}
+
+fn method_fits(m: Method) -> bool
+    ensures { λ r. ⌜ r ≡ methodFits m ⌝ }
+{
+    let id = m.id;
+    let n = id.len;
+    if n < 1 {
+        return false;
+    }
+    if 32 < n {
+        return false;
+    }
+    let bytes = id.bytes;
+    printable(&bytes[..n])
+}
+
+pub fn methods_fit(m: Methods) -> bool
+    ensures { λ r. ⌜ r ≡ methodsFit m ⌝ }
+{
+    let list = m.list;
+    let n = m.count;
+    if 8 < n {
+        return false;
+    }
+    let mut i = 0;
+    while i < n {
+        let method = list[i];
+        if method_fits(method) {
+            i += 1;
+        } else {
+            return false;
+        }
+    }
+    true
+}
+
+fn tries_fit(settings: Settings, m: Methods, s: Session) -> bool
+    ensures { λ r. ⌜ r ≡ triesFit settings m s ⌝ }
+{
+    if state::running::code_in_progress(m, s) {
+        return within(1, settings.tries as u64, s.tries as u64);
+    }
+    true
+}
+
+fn session_fits(settings: Settings, m: Methods, s: Session) -> bool
+    ensures { λ r. ⌜ r ≡ sessionFits settings m s ⌝ }
+{
+    if s.present {
+        let phone = s.phone;
+        if phones::id_in_range(phone) {
+            if s.method < m.count {
+                return tries_fit(settings, m, s);
+            }
+        }
+        return false;
+    }
+    true
+}
+
+fn window_fits(w: Window) -> bool
+    ensures { λ r. ⌜ r ≡ windowFits w ⌝ }
+{
+    if w.present {
+        return within(1, 4, w.count as u64);
+    }
+    true
+}
+
+// The lists and the peer.
+fn phones_fit(c: Core) -> bool
+    ensures { λ r. ⌜ r ≡ phonesFit c ⌝ }
+{
+    let paired = c.paired;
+    if phones::list_in_range(paired) {
+        let validations = c.validations;
+        let validated = validations.phones;
+        if phones::list_in_range(validated) {
+            let peer = c.peer;
+            return phones::id_in_range(peer);
+        }
+    }
+    false
+}
+
+// Whether a lent gate is served; otherwise every call answers 25.
+pub fn in_range(c: Core) -> bool
+    ensures { λ r. ⌜ r ≡ inRange c ⌝ }
+{
+    let settings = c.settings;
+    if settings_fit(settings) {
+        let methods = c.methods;
+        if methods_fit(methods) {
+            if phones_fit(c) {
+                let validation = c.validation;
+                let session = validation.session;
+                if session_fits(settings, methods, session) {
+                    let probe = c.probe;
+                    let window = probe.window;
+                    return window_fits(window);
+                }
+            }
+        }
+    }
+    false
+}

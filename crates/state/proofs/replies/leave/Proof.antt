@@ -1,0 +1,18 @@
+-- A reply without signals.
+use borrow.Author.Needs.{needs}
+use Rattle.state.specs.Replies.{reply, leave}
+use Rattle.state.proofs.replies.leave.Statement.{statement}
+use Rattle.state.proofs.replies.leave.Tie as tie
+
+no-signals-requires : tie.Need-no-signals-requires
+no-signals-requires c κs = search needs
+
+reply-requires : tie.Need-reply-requires
+reply-requires c κs = search needs
+
+returns : tie.Need-returns
+unfolding reply leave
+returns c = rw (← c .before .no-signals .ensures, c .reply .ensures)
+
+pub leave-spec : {M : Type 1} → statement M
+leave-spec = tie.close (tie.spec no-signals-requires reply-requires returns)

@@ -1,0 +1,39 @@
+use Rattle.validation.specs.Calls.{complete}
+use borrow.Author.Needs.{needs}
+use Rattle.validation.proofs.calls.complete_validation_action_at.Statement.{statement}
+use Rattle.validation.proofs.calls.complete_validation_action_at.Tie as tie
+
+lapse-of-requires : tie.Need-lapse-of-requires
+lapse-of-requires c κs = search needs
+
+enum-told : tie.Need-enum-told
+enum-told c = search needs
+
+completed-requires : tie.Need-completed-requires
+completed-requires c κs = search needs
+
+enum-known-lapse : tie.Need-enum-known-lapse
+enum-known-lapse c = search needs
+
+end-session-requires : tie.Need-end-session-requires
+end-session-requires c κs = search needs
+
+returns : tie.Need-returns
+unfolding complete
+returns c = rw (c .completed .ensures, ← c .before .before .before .lapse-of .ensures, c .before .enum-told .given .1)
+
+returns-2 : tie.Need-returns-2
+unfolding complete
+returns-2 c = rw (c .end-session .ensures, ← c .before .before .before .before .lapse-of .ensures, c .before .before .lapse .given .1)
+
+pub complete-validation-action-at-spec : {M : Type 1} → statement M
+complete-validation-action-at-spec =
+    tie.close
+    (tie.spec
+    lapse-of-requires
+    enum-told
+    completed-requires
+    enum-known-lapse
+    end-session-requires
+    returns
+    returns-2)

@@ -1,0 +1,39 @@
+use Rattle.validation.specs.Calls.{tick}
+use borrow.Author.Needs.{needs}
+use Rattle.validation.proofs.calls.tick_validation.Statement.{statement}
+use Rattle.validation.proofs.calls.tick_validation.Tie as tie
+
+lapse-of-requires : tie.Need-lapse-of-requires
+lapse-of-requires c κs = search needs
+
+enum-told : tie.Need-enum-told
+enum-told c = search needs
+
+leave-requires : tie.Need-leave-requires
+leave-requires c κs = search needs
+
+enum-known-lapse : tie.Need-enum-known-lapse
+enum-known-lapse c = search needs
+
+end-session-requires : tie.Need-end-session-requires
+end-session-requires c κs = search needs
+
+returns : tie.Need-returns
+unfolding tick
+returns c = rw (c .leave .ensures, ← c .before .before .before .lapse-of .ensures, c .before .enum-told .given .1)
+
+returns-2 : tie.Need-returns-2
+unfolding tick
+returns-2 c = rw (c .end-session .ensures, ← c .before .before .before .before .lapse-of .ensures, c .before .before .lapse .given .1)
+
+pub tick-validation-spec : {M : Type 1} → statement M
+tick-validation-spec =
+    tie.close
+    (tie.spec
+    lapse-of-requires
+    enum-told
+    leave-requires
+    enum-known-lapse
+    end-session-requires
+    returns
+    returns-2)
