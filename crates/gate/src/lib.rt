@@ -62,14 +62,7 @@ pub fn start_validation(g: Gate, phone: &[u8], method: &[u8], clock: u64, random
 {
     let core = g.core;
     let drawn = draw::draw(random, core.settings.digits);
-    let said = validation::start::start_validation(
-        core,
-        phone,
-        method,
-        clock,
-        0 < random.len(),
-        drawn.ok,
-    );
+    let said = start::start_validation(core, phone, method, clock, 0 < random.len(), drawn.ok);
     let fresh = drawn.code;
     filled(g, fresh, said)
 }
@@ -81,7 +74,7 @@ pub fn submit_validation_code(g: Gate, phone: &[u8], typed: &[u8], clock: u64) -
     let held = g.code;
     let is_text = text::is_text(typed);
     let is_right = text::is_right(held, core.settings.digits, typed);
-    let said = validation::submit::submit_validation_code(core, phone, clock, is_text, is_right);
+    let said = submit::submit_validation_code(core, phone, clock, is_text, is_right);
     answered(g, said)
 }
 

@@ -1,0 +1,18 @@
+use Rattle.gate.specs.Gate.{step}
+use Rattle.answers.specs.Query.{answerTo}
+use borrow.Author.Needs.{needs}
+use Rattle.queries.proofs.car_has_validated_phone.Statement.{statement}
+use Rattle.queries.proofs.car_has_validated_phone.Tie as tie
+
+car-has-validated-phone-requires : tie.Need-car-has-validated-phone-requires
+car-has-validated-phone-requires c κs = search needs
+
+told-requires : tie.Need-told-requires
+told-requires c κs = search needs
+
+returns : tie.Need-returns
+unfolding step answerTo
+returns c = rw (c .told .ensures, c .before .car-has-validated-phone .ensures)
+
+pub car-has-validated-phone-spec : {M : Type 1} → statement M
+car-has-validated-phone-spec = tie.close (tie.spec car-has-validated-phone-requires told-requires returns)

@@ -1,0 +1,18 @@
+use Rattle.gate.specs.Gate.{step}
+use Rattle.answers.specs.Query.{answerTo}
+use borrow.Author.Needs.{needs}
+use Rattle.queries.proofs.has_can_dev_write_lock.Statement.{statement}
+use Rattle.queries.proofs.has_can_dev_write_lock.Tie as tie
+
+has-can-dev-write-lock-requires : tie.Need-has-can-dev-write-lock-requires
+has-can-dev-write-lock-requires c κs = search needs
+
+told-requires : tie.Need-told-requires
+told-requires c κs = search needs
+
+returns : tie.Need-returns
+unfolding step answerTo
+returns c = rw (c .told .ensures, c .before .has-can-dev-write-lock .ensures)
+
+pub has-can-dev-write-lock-spec : {M : Type 1} → statement M
+has-can-dev-write-lock-spec = tie.close (tie.spec has-can-dev-write-lock-requires told-requires returns)

@@ -1,0 +1,18 @@
+use Rattle.gate.specs.Gate.{step}
+use Rattle.answers.specs.Query.{answerTo}
+use borrow.Author.Needs.{needs}
+use Rattle.queries.proofs.is_can_bus_listen_only.Statement.{statement}
+use Rattle.queries.proofs.is_can_bus_listen_only.Tie as tie
+
+is-can-bus-listen-only-requires : tie.Need-is-can-bus-listen-only-requires
+is-can-bus-listen-only-requires c κs = search needs
+
+told-requires : tie.Need-told-requires
+told-requires c κs = search needs
+
+returns : tie.Need-returns
+unfolding step answerTo
+returns c = rw (c .told .ensures, c .before .is-can-bus-listen-only .ensures)
+
+pub is-can-bus-listen-only-spec : {M : Type 1} → statement M
+is-can-bus-listen-only-spec = tie.close (tie.spec is-can-bus-listen-only-requires told-requires returns)

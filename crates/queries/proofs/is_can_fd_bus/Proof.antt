@@ -1,0 +1,18 @@
+use Rattle.gate.specs.Gate.{step}
+use Rattle.answers.specs.Query.{answerTo}
+use borrow.Author.Needs.{needs}
+use Rattle.queries.proofs.is_can_fd_bus.Statement.{statement}
+use Rattle.queries.proofs.is_can_fd_bus.Tie as tie
+
+is-can-fd-bus-requires : tie.Need-is-can-fd-bus-requires
+is-can-fd-bus-requires c κs = search needs
+
+told-requires : tie.Need-told-requires
+told-requires c κs = search needs
+
+returns : tie.Need-returns
+unfolding step answerTo
+returns c = rw (c .told .ensures, c .before .is-can-fd-bus .ensures)
+
+pub is-can-fd-bus-spec : {M : Type 1} → statement M
+is-can-fd-bus-spec = tie.close (tie.spec is-can-fd-bus-requires told-requires returns)

@@ -1,0 +1,18 @@
+use Rattle.gate.specs.Gate.{step}
+use Rattle.answers.specs.Query.{answerTo}
+use borrow.Author.Needs.{needs}
+use Rattle.queries.proofs.is_car_fingerprint_confirmed.Statement.{statement}
+use Rattle.queries.proofs.is_car_fingerprint_confirmed.Tie as tie
+
+is-car-fingerprint-confirmed-requires : tie.Need-is-car-fingerprint-confirmed-requires
+is-car-fingerprint-confirmed-requires c κs = search needs
+
+told-requires : tie.Need-told-requires
+told-requires c κs = search needs
+
+returns : tie.Need-returns
+unfolding step answerTo
+returns c = rw (c .told .ensures, c .before .is-car-fingerprint-confirmed .ensures)
+
+pub is-car-fingerprint-confirmed-spec : {M : Type 1} → statement M
+is-car-fingerprint-confirmed-spec = tie.close (tie.spec is-car-fingerprint-confirmed-requires told-requires returns)

@@ -1,0 +1,21 @@
+use Rattle.answers.specs.Answers as Answers
+use borrow.Author.Needs.{needs}
+use Rattle.queries.proofs.told.Statement.{statement}
+use Rattle.queries.proofs.told.Tie as tie
+
+in-range-requires : tie.Need-in-range-requires
+in-range-requires c κs = search needs
+
+yes-no-requires : tie.Need-yes-no-requires
+yes-no-requires c κs = search needs
+
+returns : tie.Need-returns
+unfolding Answers.told
+returns c = rw (c .yes-no .ensures, ← c .before .before .in-range .ensures, c .before .if1 .taken)
+
+returns-2 : tie.Need-returns-2
+unfolding Answers.told
+returns-2 c = rw (← c .before .in-range .ensures, c .if1 .left)
+
+pub told-spec : {M : Type 1} → statement M
+told-spec = tie.close (tie.spec in-range-requires yes-no-requires returns returns-2)

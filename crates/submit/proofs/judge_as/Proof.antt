@@ -1,0 +1,44 @@
+use Rattle.validation.specs.Calls.{judge}
+use borrow.Author.Needs.{needs}
+use Rattle.submit.proofs.judge_as.Statement.{statement}
+use Rattle.submit.proofs.judge_as.Tie as tie
+
+enum-told : tie.Need-enum-told
+enum-told c = search needs
+
+told-requires : tie.Need-told-requires
+told-requires c κs = search needs
+
+enum-told-2 : tie.Need-enum-told-2
+enum-told-2 c = search needs
+
+right-code-requires : tie.Need-right-code-requires
+right-code-requires c κs = search needs
+
+returns : tie.Need-returns
+unfolding judge
+returns c = rw (c .right-code .ensures, c .before .before .enum-told2 .given .1, c .before .if1 .taken)
+
+wrong-requires : tie.Need-wrong-requires
+wrong-requires c κs = search needs
+
+returns-2 : tie.Need-returns-2
+unfolding judge
+returns-2 c = rw (c .told .ensures, c .before .enum-told .given .1)
+
+returns-3 : tie.Need-returns-3
+unfolding judge
+returns-3 c = rw (c .wrong .ensures, c .before .before .enum-told2 .given .1, c .before .if1 .left)
+
+pub judge-as-spec : {M : Type 1} → statement M
+judge-as-spec =
+    tie.close
+    (tie.spec
+    enum-told
+    told-requires
+    enum-told-2
+    right-code-requires
+    returns
+    wrong-requires
+    returns-2
+    returns-3)

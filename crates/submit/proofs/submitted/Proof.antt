@@ -1,0 +1,35 @@
+use Rattle.validation.specs.Calls.{submitted}
+use borrow.Author.Needs.{needs}
+use Rattle.submit.proofs.submitted.Statement.{statement}
+use Rattle.submit.proofs.submitted.Tie as tie
+
+runs-for-requires : tie.Need-runs-for-requires
+runs-for-requires c κs = search needs
+
+method-at-requires : tie.Need-method-at-requires
+method-at-requires c κs = search needs
+
+judge-as-requires : tie.Need-judge-as-requires
+judge-as-requires c κs = search needs
+
+returns : tie.Need-returns
+unfolding submitted
+returns c = rw (c .judge-as .ensures, c .before .method-at .ensures, ← c .before .before .before .before .runs-for .ensures, c .before .before .before .if1 .taken)
+
+told-requires : tie.Need-told-requires
+told-requires c κs = search needs
+
+returns-2 : tie.Need-returns-2
+unfolding submitted
+returns-2 c = rw (c .told .ensures, ← c .before .before .runs-for .ensures, c .before .if1 .left)
+
+pub submitted-spec : {M : Type 1} → statement M
+submitted-spec =
+    tie.close
+    (tie.spec
+    runs-for-requires
+    method-at-requires
+    judge-as-requires
+    returns
+    told-requires
+    returns-2)
