@@ -1,14 +1,12 @@
 -- Steps of the loops over the frames of a probe, and the arithmetic of the marks.
-use mathlib.Core.Path.{_≡_, ap, sym, _∙_}
+use mathlib.Core.Path.{_≡_, sym, _∙_}
 use mathlib.Core.Bool.{Bool, true, false, cond, not, _&&_}
 use mathlib.Core.List.{List}
 use Prim.Native.Nat.{ℕ, _+_, _-_, _%_, _^_, _≤_, _<_}
 use native.Mathlib.Numerals.{add-one}
 use native.Mathlib.Omega.{arith}
-use lib.ListN.{length, take, drop, getD, set, length-take, drop-of-length-le}
-use lib.Seq.{drop-cons, getD-take, take-suc, take-all}
-use Rattle.arrays.specs.Arrays.{padded}
-use Rattle.arrays.proofs.Laws.{padded-push}
+use lib.ListN.{length, take, drop, getD, length-take, drop-of-length-le}
+use lib.Seq.{drop-cons, getD-take}
 use Rattle.frames.specs.declared.CanFrame.{CanFrame}
 use Rattle.frames.specs.declared.ProbeFrame.{ProbeFrame}
 use Rattle.frames.specs.Frames.{idInRange, isEntry}
@@ -68,18 +66,3 @@ module _
 pub unsent-end : (frame : CanFrame) (xs : List ProbeFrame) (ss : List Bool) (i : ℕ) → length xs ≤ i → firstUnsent frame 0 xs ss ≡ firstUnsent frame i (drop i xs) (drop i ss) → Nothing ≡ firstUnsent frame 0 xs ss
 unfolding firstUnsent
 unsent-end frame xs ss i h inv = sym (inv ∙ rw (drop-of-length-le xs h))
-
--- ---- the frames of a new window
-
--- one frame more
-pub fill-step : (d e : ProbeFrame) (i : ℕ) (out s : List ProbeFrame) → i < 4 → length s ≡ 4 → out ≡ padded 4 d (take i s)
-    → set out i (getD s i e) ≡ padded 4 d (take (i + 1) s)
-fill-step d e i out s h far inv =
-    let long : length (take i s) ≡ i = rw (length-take, far) (omega arith) in
-    let inside : i < length s = omega arith in
-    rw (inv, add-one, take-suc s i e inside, ← padded-push 4 d (getD s i e) (take i s) (omega arith), long)
-
--- all of them
-pub fill-end : (d : ProbeFrame) (i n : ℕ) (out s : List ProbeFrame) → 4 ≤ i → i ≤ n → length s ≡ 4 → out ≡ padded 4 d (take i s)
-    → out ≡ padded 4 d (take n s)
-fill-end d i n out s h k far inv = inv ∙ ap (padded 4 d) (take-all i s (omega arith) ∙ sym (take-all n s (omega arith)))

@@ -43,7 +43,7 @@ use Rattle.validation.specs.Calls as Validation
 use Rattle.answers.specs.Answers as Answers
 use Rattle.answers.specs.Query as Query
 use Rattle.answers.specs.Query.{Reply, plain, sessionFor}
-use Rattle.gate.specs.New as New
+use Rattle.new_gate.specs.New as New
 use Rattle.gate.specs.Gate.{Call, newGateCall, startValidation, submitValidationCode, change, ask, Change, tickValidation, openIdentityProbe, allowCanTx, heardCanFrame, restorePhoneValidations, Given, step}
 use Rattle.gate.specs.Gate as Gate
 

@@ -26,7 +26,7 @@ use Rattle.phone_trust.specs.Changes as Trust
 use Rattle.can_probe.specs.Calls as Probe
 use Rattle.validation.specs.Calls as Validation
 use Rattle.answers.specs.Query.{Query, Reply, plain, numberedReply, answerTo}
-use Rattle.gate.specs.New.{newGate}
+use Rattle.new_gate.specs.New.{newGate}
 
 -- ---- the calls
 

@@ -1,7 +1,5 @@
 // The access gate: one function for each call that changes it; the queries are in `queries`. State by value in; answer,
 // signals and state by value out. Each promise is an equation with `step` of specs/Gate.antt, for every gate that is lent.
-pub mod fresh;
-
 use frames::CanFrame;
 use frames::ProbeFrame;
 use frames::TxClass;
@@ -51,7 +49,7 @@ fn answered(g: Gate, said: Said) -> Outcome
 pub fn new_gate(settings: Settings, methods: [Method; 8], count: usize) -> Outcome
     ensures { λ r. ⌜ NewFrom r settings methods count ⌝ }
 {
-    fresh::new_gate(settings, methods, count)
+    new_gate::new_gate(settings, methods, count)
 }
 
 // ---- the session

@@ -1,7 +1,5 @@
 // What the gate tells: one function for each query. A query changes nothing, raises nothing, and gets 25 first. Each promise
 // is an equation with `step` of the gate's definition.
-pub mod shown;
-
 use answers::AccessAnswer;
 use answers::ApprovalAnswer;
 use answers::ChallengeAnswer;

@@ -33,7 +33,7 @@ use Rattle.validation.specs.Calls as Validation
 use Rattle.answers.specs.declared.ChallengeAnswer.{ChallengeAnswer}
 use Rattle.answers.specs.Query as Query
 use Rattle.answers.specs.Query.{Reply, plain}
-use Rattle.gate.specs.New as New
+use Rattle.new_gate.specs.New as New
 use Rattle.gate.specs.Gate.{Call, newGateCall, startValidation, submitValidationCode, change, ask, Given, step}
 use Rattle.two_runs.specs.Demand.{blanked, hideGate, hideChallenge, hideSignals, hideReply, seen, after, run, codeRuns, Alike, starts, submits, news, changes, asks, TwoRuns, end, next, judgedWrong, begins, Tally, sessions, AlikeGates}
 use Rattle.two_runs.proofs.Digits.{same-length, same-past}

@@ -20,7 +20,7 @@ use Rattle.range.specs.Range.{settingsFit, methodsFit, inRange}
 use Rattle.state.specs.Replies.{noCode, leave, fill}
 use Rattle.range.specs.Range.{served}
 use Rattle.validation.specs.Calls.{start, submit}
-use Rattle.gate.specs.New.{newMethods, newCore, leastSettings, madeGate, newGate}
+use Rattle.new_gate.specs.New.{newMethods, newCore, leastSettings, madeGate, newGate}
 use Rattle.gate.specs.Gate as Gate
 use Rattle.gate.specs.Gate.{Call, isLent, changed, step}
 use Rattle.two_runs.specs.Demand.{after, codeRuns, judgedWrong, begins, Within, sessions, Every, nil, both}

@@ -4,8 +4,7 @@ use Prim.Native.Nat.{_≤_, _-_}
 use lib.ListN.{length, take, length-set}
 use Rattle.arrays.specs.Arrays.{padded}
 use Rattle.can_probe.specs.Window.{noFrame}
-use Rattle.arrays.proofs.Laws.{long-map}
-use Rattle.can_probe.proofs.Laws.{fill-step, fill-end}
+use Rattle.arrays.proofs.Laws.{copy-step, copy-end, long-map}
 use borrow.Author.Needs.{needs}
 use native.Mathlib.Omega.{arith}
 use Rattle.can_probe.proofs.window.first_frames.Statement.{statement}
@@ -53,12 +52,13 @@ loop-less c = omega arith
 loop-again : tie.Need-loop-again Inv-loop μ-loop
 loop-again c =
     let loop = c .before .before .before .loop in
-    (omega arith, omega arith, loop .inv .2, simp length-set (loop .inv .3), fill-step noFrame _ (loop .i) (loop .out) (c .before .before .before .before .before .args .t1) (omega arith) (loop .inv .2) (loop .inv .4))
+    (omega arith, omega arith, loop .inv .2, simp length-set (loop .inv .3), copy-step 4 noFrame (loop .i) (loop .out) (c .before .before .before .before .before .args .t1) (loop .inv .2) (loop .inv .4) _ (omega arith))
 
 returns-2 : tie.Need-returns-2 Inv-loop μ-loop
 returns-2 c =
     let loop = c .before .loop in
-    fill-end noFrame (loop .i) (c .before .before .before .args .count) (loop .out) (c .before .before .before .args .t1) (omega arith) (omega arith) (loop .inv .2) (loop .inv .4)
+    let args = c .before .before .before .args in
+    copy-end 4 noFrame (loop .i) (loop .out) (args .t1) (loop .inv .2) (loop .inv .4) (args .count) (omega arith) (omega arith)
 
 pub first-frames-spec : {M : Type 1} → statement M
 first-frames-spec =

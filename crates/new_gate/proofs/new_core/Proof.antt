@@ -1,0 +1,43 @@
+use Rattle.arrays.specs.Arrays.{padded}
+use Rattle.phones.specs.Phones.{idOf}
+use Rattle.new_gate.specs.New.{newCore}
+use borrow.Author.Needs.{needs}
+use Rattle.new_gate.proofs.new_core.Statement.{statement}
+use Rattle.new_gate.proofs.new_core.Tie as tie
+
+new-policy-requires : tie.Need-new-policy-requires
+new-policy-requires c κs = search needs
+
+empty-list-requires : tie.Need-empty-list-requires
+empty-list-requires c κs = search needs
+
+no-validations-requires : tie.Need-no-validations-requires
+no-validations-requires c κs = search needs
+
+no-session-requires : tie.Need-no-session-requires
+no-session-requires c κs = search needs
+
+new-probe-requires : tie.Need-new-probe-requires
+new-probe-requires c κs = search needs
+
+returns : tie.Need-returns
+unfolding newCore idOf padded
+returns c =
+    rw (
+      c .new-probe .ensures,
+      c .before .no-session .ensures,
+      c .before .before .no-validations .ensures,
+      c .before .before .before .empty-list .ensures,
+      c .before .before .before .before .new-policy .ensures,
+    )
+
+pub new-core-spec : {M : Type 1} → statement M
+new-core-spec =
+    tie.close
+    (tie.spec
+    new-policy-requires
+    empty-list-requires
+    no-validations-requires
+    no-session-requires
+    new-probe-requires
+    returns)

@@ -1,0 +1,195 @@
+// New gate: read-only, with the source's starting statics.
+use phones::PhoneId;
+use state::Access;
+use state::Answer;
+use state::Buses;
+use state::Core;
+use state::Gate;
+use state::Identity;
+use state::Method;
+use state::Methods;
+use state::Outcome;
+use state::Policy;
+use state::Probe;
+use state::Session;
+use state::Settings;
+use state::Status;
+use state::Validation;
+ghost use mathlib.Core.Path.{_≡_};
+ghost use lib.ListN.{take};
+ghost use Rattle.arrays.specs.Arrays.{padded};
+ghost use Rattle.state.specs.Running.{noMethod};
+ghost use Rattle.range.specs.Range.{settingsFit, methodsFit};
+ghost use mathlib.Core.Bool.{_&&_};
+ghost use mathlib.Core.List.{[]};
+ghost use Rattle.state.specs.declared.Answer.the-variants.{BadSettings};
+ghost use Rattle.new_gate.specs.New.{noSession, newPolicy, newProbe, newMethods, newCore, leastSettings, madeGate, newGate};
+
+fn no_session() -> Session
+    ensures { λ r. ⌜ r ≡ noSession ⌝ }
+{
+    let bytes = [0u8; 32];
+    let phone = PhoneId { bytes, len: 0 };
+    let car = [0u8; 32];
+    Session {
+        present: false,
+        number: 0,
+        phone,
+        method: 0,
+        car,
+        tries: 0,
+        deadline: 0,
+        status: Status::InProgress,
+        ended: 0,
+    }
+}
+
+fn new_policy() -> Policy
+    ensures { λ r. ⌜ r ≡ newPolicy ⌝ }
+{
+    let none = state::replies::no_car();
+    let identity = Identity {
+        platform: 0,
+        confirmed: false,
+        car: none,
+    };
+    let access = Access {
+        approval: none,
+        unlocked: false,
+        production: false,
+    };
+    let fd = [false; 4];
+    let buses = Buses {
+        locked: true,
+        logging: false,
+        fd,
+    };
+    Policy {
+        identity,
+        access,
+        buses,
+    }
+}
+
+fn new_probe() -> Probe
+    ensures { λ r. ⌜ r ≡ newProbe ⌝ }
+{
+    let window = can_probe::window::no_window();
+    let marks = [0u32; 4];
+    Probe {
+        window,
+        attempts: 0,
+        relocks: 0,
+        marks,
+    }
+}
+
+// The methods in use, and without an id past them.
+pub fn used_methods(list: [Method; 8], count: usize) -> [Method; 8]
+    ensures { λ r. ⌜ r ≡ padded 8 noMethod (take count list) ⌝ }
+{
+    let none = state::running::no_method();
+    let mut kept = [none; 8];
+    let mut i = 0;
+    while i < 8 {
+        if count <= i {
+            return kept;
+        }
+        let m = list[i];
+        kept[i] = m;
+        i += 1;
+    }
+    kept
+}
+
+// Each may start and go on.
+fn new_methods(list: [Method; 8], count: usize) -> Methods
+    ensures { λ r. ⌜ r ≡ newMethods list count ⌝ }
+{
+    let kept = used_methods(list, count);
+    let available = [true; 8];
+    let continues = [true; 8];
+    Methods {
+        list: kept,
+        count,
+        available,
+        continues,
+    }
+}
+
+fn new_core(settings: Settings, methods: Methods) -> Core
+    ensures { λ r. ⌜ r ≡ newCore settings methods ⌝ }
+{
+    let policy = new_policy();
+    let paired = phones::empty_list();
+    let validations = can_access::no_validations();
+    let bytes = [0u8; 32];
+    let peer = PhoneId { bytes, len: 0 };
+    let session = no_session();
+    let validation = Validation {
+        session,
+        cooldown: 0,
+        next: 1,
+    };
+    let probe = new_probe();
+    Core {
+        settings,
+        methods,
+        policy,
+        paired,
+        validations,
+        peer,
+        validation,
+        probe,
+    }
+}
+
+fn made_gate(answer: Answer, core: Core) -> Outcome
+    ensures { λ r. ⌜ r ≡ madeGate answer core ⌝ }
+{
+    let signals = state::replies::no_signals();
+    let code = [0u8; 9];
+    let gate = Gate { core, code };
+    Outcome {
+        answer,
+        signals,
+        gate,
+    }
+}
+
+// 25: no methods, each setting at its least.
+fn least_gate(list: [Method; 8]) -> Outcome
+    ensures { λ r. ⌜ r ≡ madeGate BadSettings (newCore leastSettings (newMethods [] 0)) ⌝ }
+{
+    let settings = Settings {
+        digits: 1,
+        tries: 1,
+        session: 1,
+        cooldown: 0,
+        keep: 0,
+        bonded: 0,
+    };
+    let methods = new_methods(list, 0);
+    let core = new_core(settings, methods);
+    made_gate(Answer::BadSettings, core)
+}
+
+fn fits(settings: Settings, methods: Methods) -> bool
+    ensures { λ r. ⌜ r ≡ (settingsFit settings && methodsFit methods) ⌝ }
+{
+    if range::settings_fit(settings) {
+        return range::methods_fit(methods);
+    }
+    false
+}
+
+pub fn new_gate(settings: Settings, list: [Method; 8], count: usize) -> Outcome
+    ensures { λ r. ⌜ r ≡ newGate settings list count ⌝ }
+{
+    let methods = new_methods(list, count);
+    if fits(settings, methods) {
+        let core = new_core(settings, methods);
+        return made_gate(Answer::Done, core);
+    }
+    least_gate(list)
+}

@@ -1,0 +1,140 @@
+-- The row is about something: from a new gate a phone is validated in each of the three ways and its command passes; another phone's is
+-- denied, and so is the same phone's before, after it is forgotten, and on another bike.
+use Prim.Native.Nat.{ℕ}
+use mathlib.Core.Path.{_≡_, refl}
+use mathlib.Core.Bool.{false}
+use mathlib.Core.List.{List, [], _∷_, _++_}
+use lib.ListN.{replicate}
+use Rattle.arrays.specs.Arrays.{padded, sameBytes}
+use Rattle.phones.specs.Phones.{allInRange, appended, contains, idBytes, idInRange, idOf, kept, listInRange, listOf, phonesOf, removeAll, someOf, tooLong}
+use Rattle.frames.specs.declared.Id.the-variants.{Standard}
+use Rattle.frames.specs.declared.CanFrame.{CanFrame}
+use Rattle.frames.specs.declared.TxClass.the-variants.{Command}
+use Rattle.sha256.specs.Sha256.{K, padLast, W, rounds, hashFrom, sha256}
+use Rattle.car_digest.specs.CarDigest.{domain, carMessage, carDigest}
+use Rattle.draw.specs.Draw.{digits, drawLimit, drawn, firstBelow, group}
+use Rattle.text.specs.Utf8.{decode, encode, encodeAll}
+use Rattle.text.specs.Text.{isText, right, trim, trimFront, trimmed, white}
+use Rattle.text.specs.Utf8 as Utf8
+use Rattle.saved_record.specs.SavedRecord.{anyLong, before, decoded, decodedBody, encoded, field, fields, judged, overLimits, readCounted, readPhones, restored}
+use Rattle.state.specs.declared.Kind.the-variants.{CodeEntry, InCarAction}
+use Rattle.state.specs.declared.Method.{Method}
+use Rattle.state.specs.declared.Settings.{Settings}
+use Rattle.state.specs.declared.Gate.{Gate}
+use Rattle.state.specs.declared.Answer.the-variants.{Yes, No}
+use Rattle.state.specs.Running as Running
+use Rattle.range.specs.Range as Range
+use Rattle.state.specs.Replies as Replies
+use Rattle.policy.specs.Policy as Policy
+use Rattle.can_access.specs.Changes as Access
+use Rattle.phone_trust.specs.Trust as Trust
+use Rattle.phone_trust.specs.Changes as Phones
+use Rattle.can_probe.specs.Calls as Probe
+use Rattle.session.specs.Session as Session
+use Rattle.validation.specs.Calls as Validation
+use Rattle.answers.specs.Answers as Answers
+use Rattle.answers.specs.Query as Query
+use Rattle.answers.specs.Query.{Reply, plain}
+use Rattle.new_gate.specs.New as New
+use Rattle.gate.specs.Gate as Gate
+use Rattle.gate.specs.Gate.{Call, startValidation, submitValidationCode, change, ask, step}
+use Rattle.only_validated.specs.Row.{carNow, afterAll, WasValidated}
+use Rattle.only_validated.proofs.Proved.{only-validated}
+
+-- ---- a new gate: 4 digits, 3 tries, a method of code entry and one of an in-car action
+
+abbrev settings : Settings
+settings = record { digits = 4; tries = 3; session = 60_000; cooldown = 30_000; keep = 10_000; bonded = 8 }
+
+-- "code" and "act"
+abbrev code : List ℕ
+code = 99 ∷ 111 ∷ 100 ∷ 101 ∷ []
+
+abbrev act : List ℕ
+act = 97 ∷ 99 ∷ 116 ∷ []
+
+abbrev methods : List Method
+methods = record { id = idOf code; kind = CodeEntry; approval = false } ∷ record { id = idOf act; kind = InCarAction; approval = false } ∷ []
+
+abbrev first : Gate
+first = New.newGate settings methods 2 .gate
+
+abbrev phone : List ℕ
+phone = 0xA1 ∷ 0xB2 ∷ []
+
+abbrev other : List ℕ
+other = 0xC3 ∷ 0xD4 ∷ []
+
+-- ---- the calls
+
+-- the host confirms the bike with this fingerprint, and its owner approves it
+abbrev onBike : List ℕ → List Call
+onBike fingerprint = change (Gate.confirmCarFingerprint fingerprint) ∷ change Gate.approveCanReadWrite ∷ []
+
+-- a production build on a bike, its buses read-write, with both phones paired
+abbrev ready : List Call
+ready =
+    change Gate.declareProductionBuild ∷
+    change Gate.confirmCarIdentity ∷
+    onBike (1 ∷ 2 ∷ 3 ∷ []) ++
+    (change (Gate.setCanReadOnly false) ∷
+    change (Gate.addPairedPhone phone) ∷
+    change (Gate.addPairedPhone other) ∷ [])
+
+-- the phone starts a session, and types the code: D2 04 00 00 draws 1234
+abbrev codeTyped : List Call
+codeTyped = startValidation phone code 1_000 (0xD2 ∷ 4 ∷ 0 ∷ 0 ∷ []) ∷ submitValidationCode phone (49 ∷ 50 ∷ 51 ∷ 52 ∷ []) 2_000 ∷ []
+
+-- the phone starts a session, and the action is done in the car
+abbrev actionDone : List Call
+actionDone = startValidation phone act 1_000 [] ∷ change (Gate.completeValidationAction 1 2_000) ∷ []
+
+-- the host restores a record of this bike with the phone in it
+abbrev recordRestored : List Call
+recordRestored = change (Gate.restorePhoneValidations (encoded (carDigest 0 (1 ∷ 2 ∷ 3 ∷ []) .digest) (phone ∷ []))) ∷ []
+
+abbrev forgotten : List Call
+forgotten = change (Gate.forgetPhoneValidation phone) ∷ []
+
+-- ---- what a command gets after these calls
+
+abbrev frame : CanFrame
+frame = record { bus = 0; id = Standard 0x123; «data» = replicate 8 0; dlc = 8 }
+
+abbrev told : List Call → List ℕ → Reply
+told ks owner = step (afterAll first ks) (change (Gate.allowCanTx 0 frame Command owner 3_000)) .answer
+
+abbrev readOnly : List Call → Reply
+readOnly ks = step (afterAll first ks) (ask (Query.isCanBusReadOnly 0)) .answer
+
+pub record Examples : Type 0 where
+  -- validated in each of the three ways
+  pub byCode : told (ready ++ codeTyped) phone ≡ plain Yes
+  pub byAction : told (ready ++ actionDone) phone ≡ plain Yes
+  pub byRecord : told (ready ++ recordRestored) phone ≡ plain Yes
+  -- another phone, paired too; no phone; the phone itself before it is validated, and after it is forgotten
+  pub otherPhone : told (ready ++ codeTyped) other ≡ plain No
+  pub noPhone : told (ready ++ codeTyped) [] ≡ plain No
+  pub earlier : told ready phone ≡ plain No
+  pub later : told (ready ++ codeTyped ++ forgotten) phone ≡ plain No
+  -- the phone on another bike, whose bus is read-write
+  pub otherBike : told (ready ++ codeTyped ++ onBike (4 ∷ [])) phone ≡ plain No
+  pub otherBus : readOnly (ready ++ codeTyped ++ onBike (4 ∷ [])) ≡ plain No
+
+pub examples : Examples
+unfolding padded sameBytes allInRange appended contains idBytes idInRange idOf kept listInRange listOf phonesOf removeAll someOf tooLong K padLast W rounds hashFrom sha256 domain carMessage carDigest digits drawLimit drawn firstBelow group decode encode encodeAll Utf8.within isText right trim trimFront trimmed white anyLong before decoded decodedBody encoded field fields judged overLimits readCounted readPhones restored Range.within Range.settingsFit Range.allOf Range.printable Range.methodFits Range.allFit Range.methodsFit Running.methodAt Running.inProgress Running.codeInProgress Range.triesFit Range.sessionFits Range.windowFits Range.phonesFit Range.inRange Range.served Replies.leave Replies.reply Replies.finish Replies.fill Policy.fingerprintConfirmed Policy.isIdentified Policy.approvedCar Policy.allowsReadWrite Policy.isReadOnly Policy.isFdBus Policy.isBusReadOnly Access.changed Access.ofOtherCar Access.approvedAs Access.approve Access.declareProduction Access.confirmPlatform Access.confirmFingerprint Access.lockAsked Access.setReadOnly Trust.isPaired Trust.ofThisCar Trust.isValidated Phones.storeOf Phones.stored Phones.forgetting Phones.forget Phones.restore Phones.told Phones.pair Phones.isFull Phones.validate Probe.allowsCommand Probe.allow Session.saturatingAdd Session.endedAs Session.isOf Session.lostReadWrite Session.noteAt Session.cannotGoOn Session.lapseOf Session.placeFrom Session.placeOf Session.nextNumber Validation.checked Validation.endSession Validation.runsFor Validation.startChecks Validation.newSession Validation.begin Validation.startAt Validation.start Validation.succeededCore Validation.succeed Validation.fullFor Validation.rightCode Validation.judge Validation.submitted Validation.submit Validation.isAction Validation.completed Validation.complete Query.answerTo Answers.told New.newMethods New.newCore New.newGate Gate.changed step
+examples = record {
+  byCode = refl;
+  byAction = refl;
+  byRecord = refl;
+  otherPhone = refl;
+  noPhone = refl;
+  earlier = refl;
+  later = refl;
+  otherBike = refl;
+  otherBus = refl;
+}
+
+-- what the row says of the first
+pub was-validated : WasValidated (carNow (afterAll first (ready ++ codeTyped))) phone first (ready ++ codeTyped)
+was-validated = only-validated .row settings methods 2 (ready ++ codeTyped) 0 frame phone 3_000 (examples .byCode)

@@ -1,0 +1,32 @@
+-- Over a list of calls: who is listed at its end was listed all the way, or was validated by one of the calls.
+use Prim.Native.Nat.{ℕ}
+use mathlib.Core.Path.{_≡_, refl}
+use mathlib.Core.Bool.{Bool, true, false}
+use mathlib.Core.List.{List, [], _∷_}
+use mathlib.Core.Logic.{_⊎_, inl, inr}
+use Rattle.state.specs.declared.Gate.{Gate}
+use Rattle.gate.specs.Gate.{Call}
+use Rattle.only_validated.specs.Row.{listed, Listed, NotListed, after, afterAll, Stays, last, more, WasValidated, here, later}
+use Rattle.only_validated.proofs.Stores.{unlisted}
+use Rattle.only_validated.proofs.Gains.{becomes}
+
+stays-first : {car phone : List ℕ} (g : Gate) (ks : List Call) → Stays car phone g ks → Listed g car phone
+stays-first g ks (last l) = l
+stays-first g ks (more l s) = l
+
+either : (car phone : List ℕ) (ks : List Call) (g : Gate) → Listed (afterAll g ks) car phone → Stays car phone g ks ⊎ WasValidated car phone g ks
+either car phone [] g l = inl (last l)
+either car phone (k ∷ ks) g l = go (either car phone ks (after g k) l) (listed (g .core .validations) car phone) refl
+  where
+    go : Stays car phone (after g k) ks ⊎ WasValidated car phone (after g k) ks → (b : Bool) → listed (g .core .validations) car phone ≡ b
+        → Stays car phone g (k ∷ ks) ⊎ WasValidated car phone g (k ∷ ks)
+    go (inr w) b e = inr (later w)
+    go (inl s) true e = inl (more e s)
+    go (inl s) false e = let v = becomes g k car phone e (stays-first (after g k) ks s) in inr (here (v .0) (v .1) s)
+
+pub was-validated : (car phone : List ℕ) (ks : List Call) (g : Gate) → NotListed g car phone → Listed (afterAll g ks) car phone → WasValidated car phone g ks
+was-validated car phone ks g n l = go (either car phone ks g l)
+  where
+    go : Stays car phone g ks ⊎ WasValidated car phone g ks → WasValidated car phone g ks
+    go (inl s) = unlisted _ n (stays-first g ks s)
+    go (inr w) = w

@@ -1,0 +1,144 @@
+-- The row of the price list: a pack's limits "cannot be changed by a phone that was not validated on that bike". `OnlyValidated`, at the
+-- end, is the whole claim. A bike is the digest of the car that the gate has identified, a phone the bytes of its id.
+use Prim.Native.Nat.{ℕ, _<_}
+use mathlib.Core.Path.{_≡_}
+use mathlib.Core.Bool.{Bool, true, false, _&&_}
+use mathlib.Core.List.{List, [], _∷_}
+use mathlib.Core.Logic.{_↔_, _≢_}
+use Rattle.arrays.specs.Arrays.{sameBytes}
+use Rattle.phones.specs.Phones.{contains, idBytes, phonesOf}
+use Rattle.frames.specs.declared.CanFrame.{CanFrame}
+use Rattle.frames.specs.declared.TxClass.{TxClass}
+use Rattle.frames.specs.declared.TxClass.the-variants.{Platform, Command}
+use Rattle.frames.specs.Frames as Frames
+use Rattle.saved_record.specs.SavedRecord.{ok, decoded}
+use Rattle.text.specs.Text.{right}
+use Rattle.state.specs.declared.Kind.{Kind}
+use Rattle.state.specs.declared.Kind.the-variants.{CodeEntry, InCarAction}
+use Rattle.state.specs.declared.Method.{Method}
+use Rattle.state.specs.declared.Settings.{Settings}
+use Rattle.state.specs.declared.Session.{Session}
+use Rattle.state.specs.declared.Validations.{Validations}
+use Rattle.state.specs.declared.Gate.{Gate}
+use Rattle.state.specs.declared.Answer.the-variants.{Yes}
+use Rattle.state.specs.Running.{inProgress, methodAt}
+use Rattle.range.specs.Range.{inRange}
+use Rattle.policy.specs.Policy.{fingerprintConfirmed, isIdentified, isBusReadOnly}
+use Rattle.phone_trust.specs.Trust.{isPaired}
+use Rattle.can_probe.specs.declared.Unsent.the-variants.{At}
+use Rattle.can_probe.specs.Window.{isOpen, unsentIn}
+use Rattle.answers.specs.Query.{plain}
+use Rattle.new_gate.specs.New.{newGate}
+use Rattle.gate.specs.Gate.{Call, change, submitValidationCode, completeValidationAction, restorePhoneValidations, allowCanTx, step}
+
+-- ---- who is listed
+
+-- the stored validations are of this car and list this phone
+unfoldable pub listed : Validations → List ℕ → List ℕ → Bool
+listed v car phone = sameBytes (v .car) car && contains phone (phonesOf (v .phones))
+
+-- the gate lists this phone for this car
+abbrev pub Listed : Gate → List ℕ → List ℕ → Type 0
+Listed g car phone = listed (g .core .validations) car phone ≡ true
+
+-- they are of another car, or do not list it
+abbrev pub NotListed : Gate → List ℕ → List ℕ → Type 0
+NotListed g car phone = listed (g .core .validations) car phone ≡ false
+
+-- the car that the gate knows now
+abbrev pub carNow : Gate → List ℕ
+carNow g = g .core .policy .identity .car .digest
+
+-- ---- which frames pass
+
+-- the gate answers yes to this frame
+abbrev pub Allowed : Gate → ℕ → CanFrame → TxClass → List ℕ → ℕ → Type 0
+Allowed g bus frame class owner clock = step g (change (allowCanTx bus frame class owner clock)) .answer ≡ plain Yes
+
+-- what every frame needs: the gate is in range, and so is the frame's id
+abbrev pub Sound : Gate → CanFrame → Type 0
+Sound g frame = (inRange (g .core) ≡ true) × (Frames.idInRange (frame .id) ≡ true)
+
+-- what a command needs: a frame for that bus, the bus read-write, a car identified now, and an owner that has an id, is paired, and is
+-- listed for this car
+pub record MayCommand (g : Gate) (bus : ℕ) (frame : CanFrame) (owner : List ℕ) : Type 0 where
+  pub sound : Sound g frame
+  pub forBus : frame .bus ≡ bus
+  pub readWrite : isBusReadOnly (g .core .policy) bus ≡ false
+  pub identified : fingerprintConfirmed (g .core .policy .identity) ≡ true
+  pub named : owner ≢ []
+  pub paired : isPaired (g .core) owner ≡ true
+  pub validated : Listed g (carNow g) owner
+
+-- what a frame of the platform needs: the bus read-write, or the identity probe's open window with an equal frame that was not sent
+pub data MaySend (g : Gate) (bus : ℕ) (frame : CanFrame) (clock : ℕ) : Type 0 where
+  readWrite : isBusReadOnly (g .core .policy) bus ≡ false → MaySend g bus frame clock
+  inWindow : (place : ℕ) → frame .bus ≡ bus → frame .dlc ≡ 8 → isOpen (g .core .policy) (g .core .probe) bus clock ≡ true
+      → unsentIn (g .core .probe .window) frame ≡ At place → MaySend g bus frame clock
+
+-- ---- how a phone comes to be listed
+
+-- the latest session
+abbrev pub session : Gate → Session
+session g = g .core .validation .session
+
+-- a session of this kind, of this phone and this car, runs and is in time, and this car is the one identified now
+pub record Runs (g : Gate) (kind : Kind) (car phone : List ℕ) (clock : ℕ) : Type 0 where
+  pub running : inProgress (session g) ≡ true
+  pub ofKind : methodAt (g .core .methods) (session g .method) .kind ≡ kind
+  pub ofPhone : idBytes (session g .phone) ≡ phone
+  pub ofCar : session g .car ≡ car
+  pub onBike : isIdentified (g .core .policy .identity) car ≡ true
+  pub inTime : clock < session g .deadline
+
+-- the call, made at the gate g, validates this phone for this car: the phone submits the gate's own code in its session; or the action in
+-- the car is completed for its session; or the host restores its stored record of this car, which lists the phone
+pub data Validates (g : Gate) (car phone : List ℕ) : Call → Type 0 where
+  byCode : (typed : List ℕ) (clock : ℕ) → Runs g CodeEntry car phone clock → right (g .code) (g .core .settings .digits) typed ≡ true
+      → Validates g car phone (submitValidationCode phone typed clock)
+  byAction : (number clock : ℕ) → Runs g InCarAction car phone clock → session g .number ≡ number
+      → Validates g car phone (change (completeValidationAction number clock))
+  byRecord : (bytes : List ℕ) (phones : List (List ℕ)) → decoded bytes ≡ ok car phones → contains phone phones ≡ true
+      → Validates g car phone (change (restorePhoneValidations bytes))
+
+-- ---- runs
+
+-- the gate that a call leaves
+abbrev pub after : Gate → Call → Gate
+after g k = step g k .gate
+
+-- the gate after calls, each lent the gate as the call before it left it
+abbrev pub afterAll : Gate → List Call → Gate
+afterAll g [] = g
+afterAll g (k ∷ ks) = afterAll (after g k) ks
+
+-- the phone is listed for the car at every gate of the run, first and last included
+pub data Stays (car phone : List ℕ) : Gate → List Call → Type 0 where
+  last : {g : Gate} → Listed g car phone → Stays car phone g []
+  more : {g : Gate} {k : Call} {ks : List Call} → Listed g car phone → Stays car phone (after g k) ks → Stays car phone g (k ∷ ks)
+
+-- one of the calls validates the phone for the car, at the gate as it is then, and from then on the phone stays listed to the end
+pub data WasValidated (car phone : List ℕ) : Gate → List Call → Type 0 where
+  here : {g : Gate} {k : Call} {ks : List Call} → inRange (g .core) ≡ true → Validates g car phone k → Stays car phone (after g k) ks
+      → WasValidated car phone g (k ∷ ks)
+  later : {g : Gate} {k : Call} {ks : List Call} → WasValidated car phone (after g k) ks → WasValidated car phone g (k ∷ ks)
+
+-- ---- the claim
+
+pub record OnlyValidated : Type 0 where
+  -- a command passes exactly if its owner is validated for the car identified now, on a bus that is read-write
+  pub command : (g : Gate) (bus : ℕ) (frame : CanFrame) (owner : List ℕ) (clock : ℕ) → Allowed g bus frame Command owner clock ↔ MayCommand g bus frame owner
+  -- any other frame is the platform's own, and passes exactly if the bus is read-write or the probe has it
+  pub platform : (g : Gate) (bus : ℕ) (frame : CanFrame) (owner : List ℕ) (clock : ℕ)
+      → Allowed g bus frame Platform owner clock ↔ Sound g frame × MaySend g bus frame clock
+  -- whatever the call, a phone becomes listed for a car only if the call validates it
+  pub call : (g : Gate) (k : Call) (car phone : List ℕ) → NotListed g car phone → Listed (after g k) car phone
+      → (inRange (g .core) ≡ true) × Validates g car phone k
+  -- whatever the calls, from any gate that does not list the owner: if a command of it passes after them, one of them validated it for
+  -- the car identified then
+  pub anyRun : (g : Gate) (ks : List Call) (bus : ℕ) (frame : CanFrame) (owner : List ℕ) (clock : ℕ) → NotListed g (carNow (afterAll g ks)) owner
+      → Allowed (afterAll g ks) bus frame Command owner clock → WasValidated (carNow (afterAll g ks)) owner g ks
+  -- the row: the same from a new gate
+  pub row : (settings : Settings) (methods : List Method) (count : ℕ) (ks : List Call) (bus : ℕ) (frame : CanFrame) (owner : List ℕ) (clock : ℕ)
+      → Allowed (afterAll (newGate settings methods count .gate) ks) bus frame Command owner clock
+      → WasValidated (carNow (afterAll (newGate settings methods count .gate) ks)) owner (newGate settings methods count .gate) ks

@@ -1,0 +1,12 @@
+use borrow.Author.Needs.{needs}
+use Rattle.shown.proofs.no_challenge.Statement.{statement}
+use Rattle.shown.proofs.no_challenge.Tie as tie
+
+no-challenge-requires : tie.Need-no-challenge-requires
+no-challenge-requires c κs = search needs
+
+returns : tie.Need-returns
+returns c = rw (c .no-challenge .ensures)
+
+pub no-challenge-spec : {M : Type 1} → statement M
+no-challenge-spec = tie.close (tie.spec no-challenge-requires returns)

@@ -1,0 +1,25 @@
+use borrow.Author.Tests.{eq-eqb, ne-eqb}
+use borrow.Author.Needs.{needs}
+use Rattle.shown.proofs.phone_access_of.Statement.{statement}
+use Rattle.shown.proofs.phone_access_of.Tie as tie
+
+no-access-requires : tie.Need-no-access-requires
+no-access-requires c κs = search needs
+
+returns : tie.Need-returns
+returns c = rw (c .no-access .ensures, eq-eqb _ _ (c .before .if1 .taken))
+
+trust-in-requires : tie.Need-trust-in-requires
+trust-in-requires c κs = search needs
+
+car-has-validated-phone-requires : tie.Need-car-has-validated-phone-requires
+car-has-validated-phone-requires c κs = search needs
+
+session-of-requires : tie.Need-session-of-requires
+session-of-requires c κs = search needs
+
+returns-2 : tie.Need-returns-2
+returns-2 c = rw (c .session-of .ensures, c .before .car-has-validated-phone .ensures, c .before .before .trust-in .ensures, ne-eqb _ _ (c .before .before .before .if1 .left))
+
+pub phone-access-of-spec : {M : Type 1} → statement M
+phone-access-of-spec = tie.close (tie.spec no-access-requires returns trust-in-requires car-has-validated-phone-requires session-of-requires returns-2)
