@@ -1,4 +1,0 @@
-pub mod Bytes
-pub mod Items
-pub mod Takes
-pub mod Values

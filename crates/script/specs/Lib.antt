@@ -1,4 +1,0 @@
-pub mod Lists
-pub mod Places
-pub mod Values
-pub mod Words
