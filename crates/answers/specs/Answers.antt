@@ -24,11 +24,11 @@ use Rattle.state.specs.Replies.{noRecord, noChallenge}
 use Rattle.policy.specs.declared.Approval.{Approval}
 use Rattle.policy.specs.declared.Approval.the-variants.{NotApproved}
 use Rattle.policy.specs.Policy.{fingerprintConfirmed, devLock, devUnlocked, isReadOnly, approvalOf}
-use Rattle.can_access.specs.Changes.{yesNo}
+use Rattle.policy_changes.specs.Changes.{yesNo}
 use Rattle.phone_trust.specs.declared.Trust.{Trust}
 use Rattle.phone_trust.specs.declared.Trust.the-variants.{NotBonded}
 use Rattle.phone_trust.specs.Trust.{isValidated, carHasValidated, trustOf}
-use Rattle.phone_trust.specs.Changes.{recordFor}
+use Rattle.validations.specs.Store.{recordFor}
 use Rattle.session.specs.Session.{replyOf, isOf, lostReadWrite, noteAt}
 use Rattle.answers.specs.declared.ApprovalAnswer.{ApprovalAnswer}
 use Rattle.answers.specs.declared.AccessAnswer.{AccessAnswer}

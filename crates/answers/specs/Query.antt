@@ -9,9 +9,9 @@ use Rattle.state.specs.declared.Answer.{Answer}
 use Rattle.state.specs.declared.Answer.the-variants.{Count, Number, Reason}
 use Rattle.state.specs.Answers.{Numbered, numbered}
 use Rattle.policy.specs.Policy.{fingerprintConfirmed, devLock, devUnlocked, isReadOnly, isFdBus, isBusReadOnly, reason}
-use Rattle.can_access.specs.Changes.{yesNo}
+use Rattle.policy_changes.specs.Changes.{yesNo}
 use Rattle.phone_trust.specs.Trust.{isPaired, isValidated, carHasValidated}
-use Rattle.can_probe.specs.Window.{isListenOnly}
+use Rattle.probe_window.specs.Window.{isListenOnly}
 use Rattle.answers.specs.declared.ApprovalAnswer.{ApprovalAnswer}
 use Rattle.answers.specs.declared.AccessAnswer.{AccessAnswer}
 use Rattle.answers.specs.declared.PhonesAnswer.{PhonesAnswer}

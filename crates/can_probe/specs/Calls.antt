@@ -20,11 +20,11 @@ use Rattle.state.specs.Parts.{withProbe}
 use Rattle.range.specs.Range.{within}
 use Rattle.state.specs.Replies.{readOnlyChanged, leave, reply}
 use Rattle.policy.specs.Policy.{isReadOnly, isFdBus, isBusReadOnly}
-use Rattle.can_access.specs.Changes.{yesNo}
+use Rattle.policy_changes.specs.Changes.{yesNo}
 use Rattle.phone_trust.specs.Trust.{isValidated}
-use Rattle.can_probe.specs.declared.Unsent.{Unsent}
-use Rattle.can_probe.specs.declared.Unsent.the-variants.{At, Nothing}
-use Rattle.can_probe.specs.Window.{markOf, isBusAwake, probeNeeded, isOpen, idsInRange, unsentIn, noWindow, newWindow, markedSent}
+use Rattle.probe_window.specs.declared.Unsent.{Unsent}
+use Rattle.probe_window.specs.declared.Unsent.the-variants.{At, Nothing}
+use Rattle.probe_window.specs.Window.{markOf, isBusAwake, probeNeeded, isOpen, idsInRange, unsentIn, noWindow, newWindow, markedSent}
 
 -- ---- open and close
 

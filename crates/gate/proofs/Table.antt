@@ -33,10 +33,14 @@ use Rattle.state.specs.Running as Running
 use Rattle.range.specs.Range as Range
 use Rattle.state.specs.Replies as Replies
 use Rattle.policy.specs.Policy as Policy
-use Rattle.can_access.specs.Changes as Access
+use Rattle.can_access.specs.Approval as Access
+use Rattle.policy_changes.specs.Changes as Changes
+use Rattle.car_identity.specs.CarIdentity as CarIdentity
+use Rattle.can.specs.Can as Can
 use Rattle.phone_trust.specs.Trust as Trust
-use Rattle.phone_trust.specs.Changes as Phones
-use Rattle.can_probe.specs.Window as Window
+use Rattle.pairing.specs.Pairing as Pairing
+use Rattle.validations.specs.Store as Store
+use Rattle.probe_window.specs.Window as Window
 use Rattle.can_probe.specs.Calls as Probe
 use Rattle.session.specs.Session as Session
 use Rattle.validation.specs.Calls as Validation
@@ -234,31 +238,31 @@ unfolding Policy.approvedCar Policy.allowsReadWrite Policy.isReadOnly Policy.isF
 openAccess2 = tt
 
 unfoldable openAccess3 : Unit {0}
-unfolding Policy.reason Access.changed Access.ofOtherCar Access.approvedAs Access.approve Access.revokeApproval
+unfolding Policy.reason Changes.changed Access.ofOtherCar Access.approvedAs Access.approve Access.revokeApproval
 openAccess3 = tt
 
 unfoldable openAccess4 : Unit {0}
-unfolding Access.knownOrNone Access.restoreApproval Access.setDevUnlocked Access.declareProduction Access.confirmPlatform
+unfolding Access.knownOrNone Access.restoreApproval Access.setDevUnlocked Access.declareProduction CarIdentity.confirmPlatform
 openAccess4 = tt
 
 unfoldable openAccess5 : Unit {0}
-unfolding Access.relocked Access.revokePlatform Access.confirmFingerprint Access.lockAsked Access.setReadOnly
+unfolding Changes.relocked CarIdentity.revokePlatform CarIdentity.confirmFingerprint Can.lockAsked Can.setReadOnly
 openAccess5 = tt
 
 unfoldable openAccess6 : Unit {0}
-unfolding Access.notePlatform Access.noteLogging Access.noteFdBus
+unfolding CarIdentity.notePlatform Can.noteLogging Can.noteFdBus
 openAccess6 = tt
 
 unfoldable openPhones1 : Unit {0}
-unfolding Trust.isPaired Trust.ofThisCar Trust.isValidated Trust.carHasValidated Trust.trustOf Phones.recordFor
+unfolding Trust.isPaired Trust.ofThisCar Trust.isValidated Trust.carHasValidated Trust.trustOf Store.recordFor
 openPhones1 = tt
 
 unfoldable openPhones2 : Unit {0}
-unfolding Phones.storeOf Phones.stored Phones.forgetting Phones.forget Phones.prune Phones.restore Phones.told Phones.pair
+unfolding Store.storeOf Store.stored Store.forgetting Store.forget Store.prune Store.restore Trust.told Pairing.pair
 openPhones2 = tt
 
 unfoldable openPhones3 : Unit {0}
-unfolding Phones.unpair Phones.clear Phones.setPeer Phones.isFull Phones.validate
+unfolding Pairing.unpair Pairing.clear Pairing.setPeer Store.isFull Store.validate
 openPhones3 = tt
 
 unfoldable openProbe1 : Unit {0}

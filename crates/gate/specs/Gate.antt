@@ -21,8 +21,11 @@ use Rattle.state.specs.declared.Outcome.{Outcome}
 use Rattle.state.specs.Answers.{Numbered, numbered}
 use Rattle.state.specs.Replies.{noSignals, noCode, fill}
 use Rattle.range.specs.Range.{served}
-use Rattle.can_access.specs.Changes as Access
-use Rattle.phone_trust.specs.Changes as Trust
+use Rattle.can_access.specs.Approval as Access
+use Rattle.car_identity.specs.CarIdentity as CarIdentity
+use Rattle.can.specs.Can as Can
+use Rattle.pairing.specs.Pairing as Pairing
+use Rattle.validations.specs.Store as Store
 use Rattle.can_probe.specs.Calls as Probe
 use Rattle.validation.specs.Calls as Validation
 use Rattle.answers.specs.Query.{Query, Reply, plain, numberedReply, answerTo}
@@ -85,29 +88,29 @@ unfoldable pub changed : Core → Change → Said
 changed c (cancelValidation phone clock) = Validation.cancel c phone clock
 changed c (completeValidationAction session clock) = Validation.complete c session clock
 changed c (tickValidation clock) = Validation.tick c clock
-changed c (addPairedPhone id) = Trust.pair c id
-changed c (removePairedPhone id) = Trust.unpair c id
-changed c clearPairedPhones = Trust.clear c
-changed c (forgetPhoneValidation id) = Trust.forget c id
-changed c prunePhoneValidations = Trust.prune c
-changed c (setBlePeer id) = Trust.setPeer c id
-changed c (restorePhoneValidations bytes) = Trust.restore c bytes
+changed c (addPairedPhone id) = Pairing.pair c id
+changed c (removePairedPhone id) = Pairing.unpair c id
+changed c clearPairedPhones = Pairing.clear c
+changed c (forgetPhoneValidation id) = Store.forget c id
+changed c prunePhoneValidations = Store.prune c
+changed c (setBlePeer id) = Pairing.setPeer c id
+changed c (restorePhoneValidations bytes) = Store.restore c bytes
 changed c approveCanReadWrite = Access.approve c
 changed c revokeCanReadWriteApproval = Access.revokeApproval c
 changed c (restoreCanReadWriteApproval approval) = Access.restoreApproval c approval
 changed c (setCanDevWriteUnlocked unlocked) = Access.setDevUnlocked c unlocked
 changed c declareProductionBuild = Access.declareProduction c
-changed c confirmCarIdentity = Access.confirmPlatform c
-changed c revokeCarIdentity = Access.revokePlatform c
-changed c (confirmCarFingerprint fingerprint) = Access.confirmFingerprint c fingerprint
-changed c (setCanReadOnly enabled) = Access.setReadOnly c enabled
+changed c confirmCarIdentity = CarIdentity.confirmPlatform c
+changed c revokeCarIdentity = CarIdentity.revokePlatform c
+changed c (confirmCarFingerprint fingerprint) = CarIdentity.confirmFingerprint c fingerprint
+changed c (setCanReadOnly enabled) = Can.setReadOnly c enabled
 changed c (openIdentityProbe bus frames count clock) = Probe.openProbe c bus frames count clock
 changed c closeIdentityProbe = Probe.closeProbe c
 changed c (allowCanTx bus frame class owner clock) = Probe.allow c bus frame class owner clock
 changed c (heardCanFrame bus clock) = Probe.heard c bus clock
-changed c (notePlatformId number) = Access.notePlatform c number
-changed c (noteCanLogging on) = Access.noteLogging c on
-changed c (noteCanFdBus bus on) = Access.noteFdBus c bus on
+changed c (notePlatformId number) = CarIdentity.notePlatform c number
+changed c (noteCanLogging on) = Can.noteLogging c on
+changed c (noteCanFdBus bus on) = Can.noteFdBus c bus on
 changed c (noteMethodAvailable place on) = Validation.noteAvailable c place on
 changed c (noteMethodCanContinue place on) = Validation.noteContinue c place on
 

@@ -106,7 +106,7 @@ pub fn add_paired_phone(g: Gate, id: &[u8]) -> Outcome
     ensures { λ r. ⌜ given r ≡ step g (change (addPairedPhone (now (id .entry)))) ⌝ }
 {
     let core = g.core;
-    let said = phone_trust::changes::add_paired_phone(core, id);
+    let said = pairing::add_paired_phone(core, id);
     answered(g, said)
 }
 
@@ -114,7 +114,7 @@ pub fn remove_paired_phone(g: Gate, id: &[u8]) -> Outcome
     ensures { λ r. ⌜ given r ≡ step g (change (removePairedPhone (now (id .entry)))) ⌝ }
 {
     let core = g.core;
-    let said = phone_trust::changes::remove_paired_phone(core, id);
+    let said = pairing::remove_paired_phone(core, id);
     answered(g, said)
 }
 
@@ -122,7 +122,7 @@ pub fn clear_paired_phones(g: Gate) -> Outcome
     ensures { λ r. ⌜ given r ≡ step g (change clearPairedPhones) ⌝ }
 {
     let core = g.core;
-    let said = phone_trust::changes::clear_paired_phones(core);
+    let said = pairing::clear_paired_phones(core);
     answered(g, said)
 }
 
@@ -130,7 +130,7 @@ pub fn forget_phone_validation(g: Gate, id: &[u8]) -> Outcome
     ensures { λ r. ⌜ given r ≡ step g (change (forgetPhoneValidation (now (id .entry)))) ⌝ }
 {
     let core = g.core;
-    let said = phone_trust::changes::forget_phone_validation(core, id);
+    let said = validations::forget_phone_validation(core, id);
     answered(g, said)
 }
 
@@ -138,7 +138,7 @@ pub fn prune_phone_validations(g: Gate) -> Outcome
     ensures { λ r. ⌜ given r ≡ step g (change prunePhoneValidations) ⌝ }
 {
     let core = g.core;
-    let said = phone_trust::changes::prune_phone_validations(core);
+    let said = validations::prune_phone_validations(core);
     answered(g, said)
 }
 
@@ -147,7 +147,7 @@ pub fn set_ble_peer(g: Gate, id: &[u8]) -> Outcome
     ensures { λ r. ⌜ given r ≡ step g (change (setBlePeer (now (id .entry)))) ⌝ }
 {
     let core = g.core;
-    let said = phone_trust::changes::set_ble_peer(core, id);
+    let said = pairing::set_ble_peer(core, id);
     answered(g, said)
 }
 
@@ -155,7 +155,7 @@ pub fn restore_phone_validations(g: Gate, bytes: &[u8]) -> Outcome
     ensures { λ r. ⌜ given r ≡ step g (change (restorePhoneValidations (now (bytes .entry)))) ⌝ }
 {
     let core = g.core;
-    let said = phone_trust::changes::restore_phone_validations(core, bytes);
+    let said = validations::restore_phone_validations(core, bytes);
     answered(g, said)
 }
 
@@ -205,7 +205,7 @@ pub fn confirm_car_identity(g: Gate) -> Outcome
     ensures { λ r. ⌜ given r ≡ step g (change confirmCarIdentity) ⌝ }
 {
     let core = g.core;
-    let said = can_access::confirm_car_identity(core);
+    let said = car_identity::confirm_car_identity(core);
     answered(g, said)
 }
 
@@ -213,7 +213,7 @@ pub fn revoke_car_identity(g: Gate) -> Outcome
     ensures { λ r. ⌜ given r ≡ step g (change revokeCarIdentity) ⌝ }
 {
     let core = g.core;
-    let said = can_access::revoke_car_identity(core);
+    let said = car_identity::revoke_car_identity(core);
     answered(g, said)
 }
 
@@ -221,7 +221,7 @@ pub fn confirm_car_fingerprint(g: Gate, fingerprint: &[u8]) -> Outcome
     ensures { λ r. ⌜ given r ≡ step g (change (confirmCarFingerprint (now (fingerprint .entry)))) ⌝ }
 {
     let core = g.core;
-    let said = can_access::confirm_car_fingerprint(core, fingerprint);
+    let said = car_identity::confirm_car_fingerprint(core, fingerprint);
     answered(g, said)
 }
 
@@ -229,7 +229,7 @@ pub fn set_can_read_only(g: Gate, enabled: bool) -> Outcome
     ensures { λ r. ⌜ given r ≡ step g (change (setCanReadOnly enabled)) ⌝ }
 {
     let core = g.core;
-    let said = can_access::set_can_read_only(core, enabled);
+    let said = can::set_can_read_only(core, enabled);
     answered(g, said)
 }
 
@@ -245,7 +245,7 @@ pub fn open_identity_probe(
     ensures { λ r. ⌜ given r ≡ step g (change (openIdentityProbe bus frames count clock)) ⌝ }
 {
     let core = g.core;
-    let said = can_probe::calls::open_identity_probe(core, bus, frames, count, clock);
+    let said = can_probe::open_identity_probe(core, bus, frames, count, clock);
     answered(g, said)
 }
 
@@ -253,7 +253,7 @@ pub fn close_identity_probe(g: Gate) -> Outcome
     ensures { λ r. ⌜ given r ≡ step g (change closeIdentityProbe) ⌝ }
 {
     let core = g.core;
-    let said = can_probe::calls::close_identity_probe(core);
+    let said = can_probe::close_identity_probe(core);
     answered(g, said)
 }
 
@@ -269,7 +269,7 @@ pub fn allow_can_tx(
     ensures { λ r. ⌜ given r ≡ step g (change (allowCanTx bus frame class (now (owner .entry)) clock)) ⌝ }
 {
     let core = g.core;
-    let said = can_probe::calls::allow_can_tx(core, bus, frame, class, owner, clock);
+    let said = can_probe::allow_can_tx(core, bus, frame, class, owner, clock);
     answered(g, said)
 }
 
@@ -277,7 +277,7 @@ pub fn heard_can_frame(g: Gate, bus: u8, clock: u64) -> Outcome
     ensures { λ r. ⌜ given r ≡ step g (change (heardCanFrame bus clock)) ⌝ }
 {
     let core = g.core;
-    let said = can_probe::calls::heard_can_frame(core, bus, clock);
+    let said = can_probe::heard_can_frame(core, bus, clock);
     answered(g, said)
 }
 
@@ -287,7 +287,7 @@ pub fn note_platform_id(g: Gate, number: u32) -> Outcome
     ensures { λ r. ⌜ given r ≡ step g (change (notePlatformId number)) ⌝ }
 {
     let core = g.core;
-    let said = can_access::note_platform_id(core, number);
+    let said = car_identity::note_platform_id(core, number);
     answered(g, said)
 }
 
@@ -295,7 +295,7 @@ pub fn note_can_logging(g: Gate, on: bool) -> Outcome
     ensures { λ r. ⌜ given r ≡ step g (change (noteCanLogging on)) ⌝ }
 {
     let core = g.core;
-    let said = can_access::note_can_logging(core, on);
+    let said = can::note_can_logging(core, on);
     answered(g, said)
 }
 
@@ -303,7 +303,7 @@ pub fn note_can_fd_bus(g: Gate, bus: u8, on: bool) -> Outcome
     ensures { λ r. ⌜ given r ≡ step g (change (noteCanFdBus bus on)) ⌝ }
 {
     let core = g.core;
-    let said = can_access::note_can_fd_bus(core, bus, on);
+    let said = can::note_can_fd_bus(core, bus, on);
     answered(g, said)
 }
 

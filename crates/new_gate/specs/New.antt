@@ -21,8 +21,8 @@ use Rattle.state.specs.declared.Outcome.{Outcome}
 use Rattle.state.specs.Running.{noMethod}
 use Rattle.range.specs.Range.{settingsFit, methodsFit}
 use Rattle.state.specs.Replies.{noCar, noSignals, noCode}
-use Rattle.can_access.specs.Changes.{noValidations}
-use Rattle.can_probe.specs.Window.{noWindow}
+use Rattle.validations.specs.Store.{noValidations}
+use Rattle.probe_window.specs.Window.{noWindow}
 
 abbrev pub noSession : Session
 noSession = record { present = false; number = 0; phone = idOf []; method = 0; car = replicate 32 0; tries = 0; deadline = 0; status = InProgress; ended = 0 }

@@ -74,7 +74,7 @@ fn new_policy() -> Policy
 fn new_probe() -> Probe
     ensures { λ r. ⌜ r ≡ newProbe ⌝ }
 {
-    let window = can_probe::window::no_window();
+    let window = probe_window::no_window();
     let marks = [0u32; 4];
     Probe {
         window,
@@ -122,7 +122,7 @@ fn new_core(settings: Settings, methods: Methods) -> Core
 {
     let policy = new_policy();
     let paired = phones::empty_list();
-    let validations = can_access::no_validations();
+    let validations = validations::no_validations();
     let bytes = [0u8; 32];
     let peer = PhoneId { bytes, len: 0 };
     let session = no_session();

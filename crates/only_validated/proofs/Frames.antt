@@ -21,11 +21,11 @@ use Rattle.state.specs.declared.Said.{Said}
 use Rattle.state.specs.Replies.{leave, fill}
 use Rattle.range.specs.Range.{inRange, served}
 use Rattle.policy.specs.Policy.{fingerprintConfirmed, isIdentified, isBusReadOnly}
-use Rattle.can_access.specs.Changes.{yesNo}
+use Rattle.policy_changes.specs.Changes.{yesNo}
 use Rattle.phone_trust.specs.Trust.{isPaired, ofThisCar, isValidated}
-use Rattle.can_probe.specs.declared.Unsent.{Unsent}
-use Rattle.can_probe.specs.declared.Unsent.the-variants.{At, Nothing}
-use Rattle.can_probe.specs.Window.{isOpen, unsentIn}
+use Rattle.probe_window.specs.declared.Unsent.{Unsent}
+use Rattle.probe_window.specs.declared.Unsent.the-variants.{At, Nothing}
+use Rattle.probe_window.specs.Window.{isOpen, unsentIn}
 use Rattle.can_probe.specs.Calls.{passed, throughWindow, allowPlatform, allowsCommand, allow}
 use Rattle.answers.specs.Query.{plain}
 use Rattle.gate.specs.Gate.{changed, step}

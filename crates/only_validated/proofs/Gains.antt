@@ -33,11 +33,16 @@ use Rattle.state.specs.Parts.{withPaired}
 use Rattle.state.specs.Replies.{leave, reply, finish, fill}
 use Rattle.range.specs.Range.{inRange, served, settingsFit, methodsFit}
 use Rattle.policy.specs.Policy.{isIdentified}
-use Rattle.can_access.specs.Changes as Access
+use Rattle.can_access.specs.Approval as Access
+use Rattle.policy_changes.specs.Changes as Changes
+use Rattle.car_identity.specs.CarIdentity as CarIdentity
+use Rattle.can.specs.Can as Can
 use Rattle.phone_trust.specs.Trust.{isPaired}
-use Rattle.phone_trust.specs.Changes as Trust
-use Rattle.can_probe.specs.declared.Unsent.{Unsent}
-use Rattle.can_probe.specs.declared.Unsent.the-variants.{At, Nothing}
+use Rattle.pairing.specs.Pairing as Pairing
+use Rattle.validations.specs.Store as Store
+use Rattle.phone_trust.specs.Trust as Trust
+use Rattle.probe_window.specs.declared.Unsent.{Unsent}
+use Rattle.probe_window.specs.declared.Unsent.the-variants.{At, Nothing}
 use Rattle.can_probe.specs.Calls as Probe
 use Rattle.session.specs.declared.Lapse.the-variants.{Stays, Ends}
 use Rattle.session.specs.Session.{isOf, lostReadWrite, noteAt, cannotGoOn, lapseOf, placeOf}
@@ -73,17 +78,17 @@ keep-cond c false o o′ k k′ = k′
 ruleset keeping = (keep-cond, keep-leave, keep-reply, keep-finish, less-same, less-none)
 
 -- the phone's id goes, or those that are not paired go
-keep-forgetting : (c : Core) (paired : PhoneList) (a : Answer) (id : List ℕ) → Keeps c (Trust.forgetting (withPaired c paired) a id)
-unfolding Trust.forgetting Trust.stored removeAll
+keep-forgetting : (c : Core) (paired : PhoneList) (a : Answer) (id : List ℕ) → Keeps c (Store.forgetting (withPaired c paired) a id)
+unfolding Store.forgetting Store.stored removeAll
 keep-forgetting c paired a id = search (keeping, less-kept)
 
-keep-unpair : (c : Core) (id : List ℕ) → Keeps c (Trust.unpair c id)
-unfolding Trust.unpair
+keep-unpair : (c : Core) (id : List ℕ) → Keeps c (Pairing.unpair c id)
+unfolding Pairing.unpair
 keep-unpair c id =
     keep-cond c (isPaired c id) _ _ (keep-forgetting c (listOf (removeFirst id (phonesOf (c .paired)))) Yes id) (keep-forgetting c (c .paired) No id)
 
-keep-prune : (c : Core) → Keeps c (Trust.prune c)
-unfolding Trust.prune Trust.stored retainIn
+keep-prune : (c : Core) → Keeps c (Store.prune c)
+unfolding Store.prune Store.stored retainIn
 keep-prune c = search (keeping, less-kept)
 
 keep-passed : (c : Core) (u : Unsent) → Keeps c (Probe.passed c u)
@@ -95,8 +100,8 @@ unfolding Probe.allowPlatform Probe.throughWindow
 keep-class c bus frame owner clock Platform = search (keeping, keep-passed)
 keep-class c bus frame owner clock Command = search keeping
 
-keep-locked : (c : Core) (enabled : Bool) → Keeps c (Access.setReadOnly c enabled)
-unfolding Access.setReadOnly Access.changed
+keep-locked : (c : Core) (enabled : Bool) → Keeps c (Can.setReadOnly c enabled)
+unfolding Can.setReadOnly Changes.changed
 keep-locked c true = search keeping
 keep-locked c false = search keeping
 
@@ -211,8 +216,8 @@ gain-complete g number clock =
         })
         (eqb-true _ _ (q .1))
 
-gain-restore : (g : Gate) (bytes : List ℕ) → Gains (By g (Gate.change (Gate.restorePhoneValidations bytes))) (g .core) (Trust.restore (g .core) bytes)
-unfolding Trust.restore reply
+gain-restore : (g : Gate) (bytes : List ℕ) → Gains (By g (Gate.change (Gate.restorePhoneValidations bytes))) (g .core) (Store.restore (g .core) bytes)
+unfolding Store.restore reply
 gain-restore g bytes = record {
   gains = λ car phone n h. let r = restored-is (decoded bytes) car phone h in byRecord bytes (r .0) (r .1) (r .2);
 }
@@ -269,7 +274,7 @@ module _ (g : Gate) where
   keep k h = kept _ (g .core) _ h
 
   gain-changed : (k : Change) → Gains (By g (Gate.change k)) (g .core) (changed (g .core) k)
-  unfolding changed Validation.cancel Validation.tick Validation.noteAvailable Validation.noteContinue Trust.pair Trust.clear Trust.forget Trust.setPeer Trust.told Trust.stored Access.approve Access.approvedAs Access.revokeApproval Access.restoreApproval Access.setDevUnlocked Access.declareProduction Access.confirmPlatform Access.revokePlatform Access.confirmFingerprint Access.notePlatform Access.noteLogging Access.noteFdBus Access.changed Probe.openProbe Probe.closeProbe Probe.windowChanged Probe.allow Probe.heard
+  unfolding changed Validation.cancel Validation.tick Validation.noteAvailable Validation.noteContinue Pairing.pair Pairing.clear Store.forget Pairing.setPeer Trust.told Store.stored Access.approve Access.approvedAs Access.revokeApproval Access.restoreApproval Access.setDevUnlocked Access.declareProduction CarIdentity.confirmPlatform CarIdentity.revokePlatform CarIdentity.confirmFingerprint CarIdentity.notePlatform Can.noteLogging Can.noteFdBus Changes.changed Probe.openProbe Probe.closeProbe Probe.windowChanged Probe.allow Probe.heard
   gain-changed (Gate.cancelValidation phone clock) = keep _ (search (keeping, keep-end))
   gain-changed (Gate.completeValidationAction number clock) = gain-complete g number clock
   gain-changed (Gate.tickValidation clock) = gain-ticking _ (g .core) clock _ _ (λ t. kept _ (g .core) _ (search keeping))

@@ -14,8 +14,8 @@ use Rattle.phones.proofs.Members.{contains-append}
 use Rattle.saved_record.specs.declared.Decoded.{Decoded}
 use Rattle.saved_record.specs.SavedRecord.{Reading, malformed, tooLarge, ok, refusal, restored}
 use Rattle.state.specs.declared.Validations.{Validations}
-use Rattle.can_access.specs.Changes.{noValidations}
-use Rattle.phone_trust.specs.Changes.{storeOf, validate}
+use Rattle.validations.specs.Store.{noValidations}
+use Rattle.validations.specs.Store.{storeOf, validate}
 use Rattle.only_validated.specs.Row.{listed}
 
 pub untrue : {A : Type 0} → false ≡ true → A

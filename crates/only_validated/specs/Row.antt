@@ -25,8 +25,8 @@ use Rattle.state.specs.Running.{inProgress, methodAt}
 use Rattle.range.specs.Range.{inRange}
 use Rattle.policy.specs.Policy.{fingerprintConfirmed, isIdentified, isBusReadOnly}
 use Rattle.phone_trust.specs.Trust.{isPaired}
-use Rattle.can_probe.specs.declared.Unsent.the-variants.{At}
-use Rattle.can_probe.specs.Window.{isOpen, unsentIn}
+use Rattle.probe_window.specs.declared.Unsent.the-variants.{At}
+use Rattle.probe_window.specs.Window.{isOpen, unsentIn}
 use Rattle.answers.specs.Query.{plain}
 use Rattle.new_gate.specs.New.{newGate}
 use Rattle.gate.specs.Gate.{Call, change, submitValidationCode, completeValidationAction, restorePhoneValidations, allowCanTx, step}

@@ -1,2 +1,1 @@
 pub mod Trust
-pub mod Changes

@@ -1,15 +1,17 @@
 -- Who is paired, who is validated (pairing.rs, phone_trust.rs).
-use mathlib.Core.Bool.{Bool, true, false, cond, not, _&&_, _||_}
-use mathlib.Core.List.{List, []}
+use mathlib.Core.Bool.{Bool, cond, not, _&&_}
+use mathlib.Core.List.{List}
 use Prim.Native.Nat.{ℕ}
 use lib.Dec.{eqb}
 use lib.ListN.{length}
-use Rattle.arrays.specs.Arrays.{sameBytes}
-use Rattle.phones.specs.Phones.{phonesOf, contains, anyIn, idBytes}
+use Rattle.phones.specs.Phones.{phonesOf, contains, anyIn}
 use Rattle.state.specs.declared.Core.{Core}
-use Rattle.policy.specs.Policy.{fingerprintConfirmed, isIdentified}
+use Rattle.policy.specs.Policy.{isIdentified}
 use Rattle.phone_trust.specs.declared.Trust.{Trust}
 use Rattle.phone_trust.specs.declared.Trust.the-variants.{NotBonded, Bonded, Validated}
+use Rattle.state.specs.declared.Answer.{Answer}
+use Rattle.state.specs.declared.Said.{Said}
+use Rattle.state.specs.Replies.{phoneAccessChanged, reply}
 
 -- is_paired
 unfoldable pub isPaired : Core → List ℕ → Bool
@@ -30,3 +32,9 @@ carHasValidated c = ofThisCar c && anyIn (phonesOf (c .paired)) (phonesOf (c .va
 -- phone_trust_level
 unfoldable pub trustOf : Core → List ℕ → Trust
 trustOf c id = cond (isPaired c id) (cond (isValidated c id) Validated Bonded) NotBonded
+
+-- ---- the signals
+
+-- notify_phone_access_changed, with an answer
+unfoldable pub told : Core → Answer → Said
+told c a = reply c a phoneAccessChanged

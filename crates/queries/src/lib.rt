@@ -15,7 +15,7 @@ use state::Answer;
 use state::Core;
 use state::Gate;
 ghost use mathlib.Core.Path.{_≡_};
-ghost use Rattle.can_access.specs.Changes.{yesNo};
+ghost use Rattle.policy_changes.specs.Changes.{yesNo};
 ghost use Rattle.answers.specs.Answers as Answers;
 ghost use Rattle.answers.specs.Query.{plain, approval, access, phones, trust, peer, phoneAccess, methods, challenge, saved};
 ghost use Rattle.answers.specs.Query.{isCanReadOnly, canReadOnlyReason, isCarIdentityConfirmed, isCarFingerprintConfirmed, canReadWriteApproval, hasCanDevWriteLock, isCanDevWriteUnlocked, canAccessState, platformId, isCanLogging, isCanFdBus, isCanBusReadOnly, isCanBusListenOnly, isPhonePaired, pairedPhoneCount, listPairedPhones, bleMaxBondedPhones, isPhoneValidated, carHasValidatedPhone, phoneTrustLevel, blePeer, encodePhoneValidations, phoneAccessState, validationMethods, sessionFor, currentValidationChallenge};
@@ -26,7 +26,7 @@ fn told(core: Core, b: bool) -> Answer
     ensures { λ r. ⌜ r ≡ Answers.told core (yesNo b) ⌝ }
 {
     if range::in_range(core) {
-        return can_access::yes_no(b);
+        return policy_changes::yes_no(b);
     }
     Answer::BadSettings
 }
@@ -155,7 +155,7 @@ pub fn is_can_bus_listen_only(g: Gate, bus: u8, clock: u64) -> Answer
     let probe = core.probe;
     told(
         core,
-        can_probe::window::is_can_bus_listen_only(policy, probe, bus, clock),
+        probe_window::is_can_bus_listen_only(policy, probe, bus, clock),
     )
 }
 
@@ -165,7 +165,7 @@ pub fn is_phone_paired(g: Gate, id: &[u8]) -> Answer
     ensures { λ r. ⌜ asked g (plain r) ≡ step g (ask (isPhonePaired (now (id .entry)))) ⌝ }
 {
     let core = g.core;
-    told(core, phone_trust::levels::is_paired(core, id))
+    told(core, phone_trust::is_paired(core, id))
 }
 
 pub fn paired_phone_count(g: Gate) -> Answer
@@ -212,14 +212,14 @@ pub fn is_phone_validated(g: Gate, id: &[u8]) -> Answer
     ensures { λ r. ⌜ asked g (plain r) ≡ step g (ask (isPhoneValidated (now (id .entry)))) ⌝ }
 {
     let core = g.core;
-    told(core, phone_trust::levels::is_phone_validated(core, id))
+    told(core, phone_trust::is_phone_validated(core, id))
 }
 
 pub fn car_has_validated_phone(g: Gate) -> Answer
     ensures { λ r. ⌜ asked g (plain r) ≡ step g (ask carHasValidatedPhone) ⌝ }
 {
     let core = g.core;
-    told(core, phone_trust::levels::car_has_validated_phone(core))
+    told(core, phone_trust::car_has_validated_phone(core))
 }
 
 pub fn phone_trust_level(g: Gate, id: &[u8]) -> TrustAnswer
@@ -227,7 +227,7 @@ pub fn phone_trust_level(g: Gate, id: &[u8]) -> TrustAnswer
 {
     let core = g.core;
     if range::in_range(core) {
-        let level = phone_trust::levels::phone_trust_level(core, id);
+        let level = phone_trust::phone_trust_level(core, id);
         return TrustAnswer {
             answer: Answer::Done,
             trust: level,
@@ -256,7 +256,7 @@ pub fn encode_phone_validations(g: Gate) -> RecordAnswer
     let core = g.core;
     if range::in_range(core) {
         let v = core.validations;
-        let stored = phone_trust::changes::record_for(v);
+        let stored = validations::record_for(v);
         return RecordAnswer {
             answer: Answer::Done,
             stored,

@@ -96,7 +96,7 @@ fn is_validated(p: PhoneId, core: Core) -> bool
 {
     let bytes = p.bytes;
     let n = at_most(p.len, 32);
-    phone_trust::levels::is_phone_validated(core, &bytes[..n])
+    phone_trust::is_phone_validated(core, &bytes[..n])
 }
 
 pub fn peer_of(core: Core) -> PeerAnswer
@@ -169,7 +169,7 @@ fn trust_in(p: PhoneId, core: Core) -> Trust
 {
     let bytes = p.bytes;
     let n = at_most(p.len, 32);
-    phone_trust::levels::phone_trust_level(core, &bytes[..n])
+    phone_trust::phone_trust_level(core, &bytes[..n])
 }
 
 fn session_of(p: PhoneId, core: Core, clock: u64) -> Answer
@@ -188,7 +188,7 @@ pub fn phone_access_of(core: Core, clock: u64) -> PhoneAccessAnswer
         return no_access(Answer::Nothing);
     }
     let trust = trust_in(peer, core);
-    let validated = phone_trust::levels::car_has_validated_phone(core);
+    let validated = phone_trust::car_has_validated_phone(core);
     let session = session_of(peer, core, clock);
     PhoneAccessAnswer {
         answer: Answer::Done,

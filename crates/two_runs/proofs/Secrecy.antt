@@ -20,7 +20,7 @@ use Rattle.state.specs.Running.{isCode, inProgress, methodAt, codeInProgress}
 use Rattle.range.specs.Range.{inRange}
 use Rattle.state.specs.Replies.{noCode, noChallenge, noSignals, codeAt, leave, fill}
 use Rattle.range.specs.Range.{served}
-use Rattle.phone_trust.specs.Changes.{told}
+use Rattle.phone_trust.specs.Trust.{told}
 use Rattle.session.specs.declared.Lapse.{Lapse}
 use Rattle.session.specs.declared.Lapse.the-variants.{Stays, Ends}
 use Rattle.session.specs.Session.{isOf, lapseOf, placeOf}

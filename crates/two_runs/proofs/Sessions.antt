@@ -16,7 +16,7 @@ use Rattle.state.specs.declared.Said.{Said}
 use Rattle.state.specs.Answers.{number}
 use Rattle.state.specs.Running.{isRunning, inProgress, codeInProgress, methodAt}
 use Rattle.state.specs.Replies.{noChallenge, leave, reply, finish, challengeChanged}
-use Rattle.phone_trust.specs.Changes.{told}
+use Rattle.phone_trust.specs.Trust.{told}
 use Rattle.session.specs.Session.{endedAs, triedOnce, isOf, placeOf}
 use Rattle.validation.specs.Calls.{Check, checked, endSession, runsFor, startChecks, newSession, challengeFor, begin, startAs, startAt, start, succeed, succeededCore, fullFor, failedCore, triedCore, wrong, wrongAnswer, rightCode, judge, judgeAs, submitted, submit}
 use Rattle.two_runs.specs.Demand.{codeRuns}

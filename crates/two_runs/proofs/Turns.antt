@@ -23,10 +23,15 @@ use Rattle.state.specs.declared.Said.{Said}
 use Rattle.state.specs.Running.{isCode, isRunning, inProgress, codeInProgress, methodAt}
 use Rattle.range.specs.Range.{within, settingsFit, methodsFit, phonesFit, triesFit, sessionFits, inRange}
 use Rattle.state.specs.Replies.{leave, reply, finish}
-use Rattle.can_access.specs.Changes as Access
-use Rattle.phone_trust.specs.Changes as Trust
-use Rattle.can_probe.specs.declared.Unsent.{Unsent}
-use Rattle.can_probe.specs.declared.Unsent.the-variants.{At, Nothing}
+use Rattle.can_access.specs.Approval as Access
+use Rattle.policy_changes.specs.Changes as Changes
+use Rattle.car_identity.specs.CarIdentity as CarIdentity
+use Rattle.can.specs.Can as Can
+use Rattle.pairing.specs.Pairing as Pairing
+use Rattle.validations.specs.Store as Store
+use Rattle.phone_trust.specs.Trust as Trust
+use Rattle.probe_window.specs.declared.Unsent.{Unsent}
+use Rattle.probe_window.specs.declared.Unsent.the-variants.{At, Nothing}
 use Rattle.can_probe.specs.Calls as Probe
 use Rattle.session.specs.declared.Lapse.the-variants.{Stays, Ends}
 use Rattle.session.specs.Session.{endedAs, lapseOf, cannotGoOn}
@@ -185,17 +190,17 @@ turn-class c bus frame owner clock Platform = search (turning, turn-passed)
 turn-class c bus frame owner clock Command = search turning
 
 turn-forgetting : (c c′ : Core) (a : Answer) (id : List ℕ) → c′ .settings ≡ c .settings → c′ .methods .list ≡ c .methods .list
-    → c′ .validation .session ≡ c .validation .session → Turn c 0 (Trust.forgetting c′ a id)
-unfolding Trust.forgetting Trust.stored
+    → c′ .validation .session ≡ c .validation .session → Turn c 0 (Store.forgetting c′ a id)
+unfolding Store.forgetting Store.stored
 turn-forgetting c c′ a id p l e = search turning
 
-turn-locked : (c : Core) (enabled : Bool) → Turn c 0 (Access.setReadOnly c enabled)
-unfolding Access.setReadOnly Access.changed
+turn-locked : (c : Core) (enabled : Bool) → Turn c 0 (Can.setReadOnly c enabled)
+unfolding Can.setReadOnly Changes.changed
 turn-locked c true = search turning
 turn-locked c false = search turning
 
 pub turn-changed : (c : Core) (k : Change) → Turn c 0 (changed c k)
-unfolding changed Validation.cancel Validation.complete Validation.completed Validation.tick Validation.noteAvailable Validation.noteContinue Trust.pair Trust.unpair Trust.clear Trust.forget Trust.prune Trust.setPeer Trust.restore Trust.told Trust.stored Access.approve Access.approvedAs Access.revokeApproval Access.restoreApproval Access.setDevUnlocked Access.declareProduction Access.confirmPlatform Access.revokePlatform Access.confirmFingerprint Access.notePlatform Access.noteLogging Access.noteFdBus Access.changed Probe.openProbe Probe.closeProbe Probe.windowChanged Probe.allow Probe.heard
+unfolding changed Validation.cancel Validation.complete Validation.completed Validation.tick Validation.noteAvailable Validation.noteContinue Pairing.pair Pairing.unpair Pairing.clear Store.forget Store.prune Pairing.setPeer Store.restore Trust.told Store.stored Access.approve Access.approvedAs Access.revokeApproval Access.restoreApproval Access.setDevUnlocked Access.declareProduction CarIdentity.confirmPlatform CarIdentity.revokePlatform CarIdentity.confirmFingerprint CarIdentity.notePlatform Can.noteLogging Can.noteFdBus Changes.changed Probe.openProbe Probe.closeProbe Probe.windowChanged Probe.allow Probe.heard
 turn-changed c (Gate.cancelValidation phone clock) = search turning
 turn-changed c (Gate.completeValidationAction session clock) = turn-ticking c clock _ _ (search turning)
 turn-changed c (Gate.tickValidation clock) = turn-ticking c clock _ _ (search turning)

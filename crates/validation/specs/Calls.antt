@@ -26,7 +26,8 @@ use Rattle.state.specs.Parts.{withMethods, withValidations, withValidation}
 use Rattle.state.specs.Running.{isCode, methodAt, inProgress}
 use Rattle.state.specs.Replies.{noChallenge, phoneAccessChanged, challengeChanged, validated, leave, reply, finish}
 use Rattle.policy.specs.Policy.{fingerprintConfirmed}
-use Rattle.phone_trust.specs.Changes.{recordFor, told, isFull, validate}
+use Rattle.validations.specs.Store.{recordFor, isFull, validate}
+use Rattle.phone_trust.specs.Trust.{told}
 use Rattle.session.specs.declared.Lapse.{Lapse}
 use Rattle.session.specs.declared.Lapse.the-variants.{Stays, Ends}
 use Rattle.session.specs.Session.{saturatingAdd, secondsTo, replyOf, endedAs, triedOnce, isOf, lostReadWrite, noteAt, lapseOf, placeOf, nextNumber}

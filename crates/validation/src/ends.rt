@@ -6,7 +6,7 @@ use state::Session;
 use state::Status;
 ghost use mathlib.Core.Path.{_≡_};
 ghost use Rattle.state.specs.Replies.{finish, validated};
-ghost use Rattle.phone_trust.specs.Changes.{recordFor};
+ghost use Rattle.validations.specs.Store.{recordFor};
 ghost use Rattle.validation.specs.Calls.{withSession, endSession, runsFor, succeededCore, fullFor};
 
 pub fn with_session(core: Core, s: Session) -> Core
@@ -49,7 +49,7 @@ pub fn succeeded_core(core: Core, clock: u64) -> Core
     let v = core.validations;
     let car = s.car;
     let phone = s.phone;
-    let more = phone_trust::changes::validate(v, car, phone);
+    let more = validations::validate(v, car, phone);
     state::parts::with_validations(c, more)
 }
 
@@ -58,7 +58,7 @@ pub fn succeed(after: Core, answer: Answer) -> Said
     ensures { λ r. ⌜ r ≡ finish after answer (validated (recordFor (after .validations))) ⌝ }
 {
     let v = after.validations;
-    let stored = phone_trust::changes::record_for(v);
+    let stored = validations::record_for(v);
     let signals = state::replies::validated(stored);
     state::replies::finish(after, answer, signals)
 }
@@ -70,5 +70,5 @@ pub fn full_for(core: Core) -> bool
     let v = core.validations;
     let car = core.validation.session.car;
     let phone = core.validation.session.phone;
-    phone_trust::changes::is_full(v, car, phone)
+    validations::is_full(v, car, phone)
 }

@@ -1,4 +1,4 @@
-use Rattle.can_access.specs.Changes.{approve}
+use Rattle.can_access.specs.Approval.{approve}
 use borrow.Author.Needs.{needs}
 use Rattle.can_access.proofs.approve_can_read_write.Statement.{statement}
 use Rattle.can_access.proofs.approve_can_read_write.Tie as tie

@@ -1,4 +1,4 @@
-use Rattle.can_access.specs.Changes.{approvedAs}
+use Rattle.can_access.specs.Approval.{approvedAs}
 use borrow.Author.Needs.{needs}
 use Rattle.can_access.proofs.approved_as.Statement.{statement}
 use Rattle.can_access.proofs.approved_as.Tie as tie

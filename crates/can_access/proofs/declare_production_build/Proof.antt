@@ -1,4 +1,4 @@
-use Rattle.can_access.specs.Changes.{declareProduction}
+use Rattle.can_access.specs.Approval.{declareProduction}
 use borrow.Author.Needs.{needs}
 use Rattle.can_access.proofs.declare_production_build.Statement.{statement}
 use Rattle.can_access.proofs.declare_production_build.Tie as tie

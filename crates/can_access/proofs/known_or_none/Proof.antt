@@ -1,4 +1,4 @@
-use Rattle.can_access.specs.Changes.{knownOrNone}
+use Rattle.can_access.specs.Approval.{knownOrNone}
 use borrow.Author.Needs.{needs}
 use Rattle.can_access.proofs.known_or_none.Statement.{statement}
 use Rattle.can_access.proofs.known_or_none.Tie as tie

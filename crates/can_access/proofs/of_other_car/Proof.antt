@@ -1,4 +1,4 @@
-use Rattle.can_access.specs.Changes.{ofOtherCar}
+use Rattle.can_access.specs.Approval.{ofOtherCar}
 use borrow.Author.Tests.{lt-ltb, le-ltb}
 use borrow.Author.Needs.{needs}
 use Rattle.can_access.proofs.of_other_car.Statement.{statement}

@@ -1,4 +1,4 @@
-use Rattle.can_access.specs.Changes.{revokeApproval}
+use Rattle.can_access.specs.Approval.{revokeApproval}
 use borrow.Author.Needs.{needs}
 use Rattle.can_access.proofs.revoke_can_read_write_approval.Statement.{statement}
 use Rattle.can_access.proofs.revoke_can_read_write_approval.Tie as tie

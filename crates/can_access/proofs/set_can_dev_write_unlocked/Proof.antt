@@ -1,4 +1,4 @@
-use Rattle.can_access.specs.Changes.{setDevUnlocked}
+use Rattle.can_access.specs.Approval.{setDevUnlocked}
 use borrow.Author.Needs.{needs}
 use Rattle.can_access.proofs.set_can_dev_write_unlocked.Statement.{statement}
 use Rattle.can_access.proofs.set_can_dev_write_unlocked.Tie as tie

@@ -1,0 +1,17 @@
+-- How a reply is laid down.
+use Rattle.answers.specs.Query.{Reply, plain, approval, access, phones, trust, peer, phoneAccess, methods, challenge, saved}
+use Rattle.lines.specs.Answer.{answer}
+use Rattle.lines.specs.Page.{Page}
+use Rattle.query_lines.specs.Query as Lines
+
+abbrev pub shown : Reply → Page → Page
+shown (plain a) p = answer a p
+shown (approval a) p = Lines.approval a p
+shown (access a) p = Lines.access a p
+shown (phones a) p = Lines.phonesListed a p
+shown (trust a) p = Lines.trust a p
+shown (peer a) p = Lines.peer a p
+shown (phoneAccess a) p = Lines.phoneAccess a p
+shown (methods a) p = Lines.methods a p
+shown (challenge a) p = Lines.challenge a p
+shown (saved a) p = Lines.encoded a p

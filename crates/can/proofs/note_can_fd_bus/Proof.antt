@@ -1,0 +1,40 @@
+use Rattle.can.specs.Can.{noteFdBus}
+use borrow.Author.Tests.{lt-ltb, le-ltb}
+use borrow.Author.Needs.{needs}
+use Rattle.can.proofs.note_can_fd_bus.Statement.{statement}
+use Rattle.can.proofs.note_can_fd_bus.Tie as tie
+
+element-write-buses : tie.Need-element-write-buses
+element-write-buses c = search needs
+
+with-buses-requires : tie.Need-with-buses-requires
+with-buses-requires c κs = search needs
+
+with-policy-requires : tie.Need-with-policy-requires
+with-policy-requires c κs = search needs
+
+leave-requires : tie.Need-leave-requires
+leave-requires c κs = search needs
+
+returns : tie.Need-returns
+unfolding noteFdBus
+returns c = rw (lt-ltb _ _ (c .before .before .before .before .before .if1 .taken), ← c .before .before .with-buses .ensures, ← c .before .with-policy .ensures, ← c .leave .ensures)
+
+leave-requires-2 : tie.Need-leave-requires-2
+leave-requires-2 c κs = search needs
+
+returns-2 : tie.Need-returns-2
+unfolding noteFdBus
+returns-2 c = rw (le-ltb _ _ (c .before .if1 .left), ← c .leave2 .ensures)
+
+pub note-can-fd-bus-spec : {M : Type 1} → statement M
+note-can-fd-bus-spec =
+    tie.close
+    (tie.spec
+    element-write-buses
+    with-buses-requires
+    with-policy-requires
+    leave-requires
+    returns
+    leave-requires-2
+    returns-2)

@@ -1,0 +1,51 @@
+use Rattle.can.specs.Can.{setReadOnly}
+use borrow.Author.Needs.{needs}
+use Rattle.can.proofs.set_can_read_only.Statement.{statement}
+use Rattle.can.proofs.set_can_read_only.Tie as tie
+
+lock-asked-requires : tie.Need-lock-asked-requires
+lock-asked-requires c κs = search needs
+
+with-buses-requires : tie.Need-with-buses-requires
+with-buses-requires c κs = search needs
+
+is-can-read-only-requires : tie.Need-is-can-read-only-requires
+is-can-read-only-requires c κs = search needs
+
+yes-no-requires : tie.Need-yes-no-requires
+yes-no-requires c κs = search needs
+
+relocked-requires : tie.Need-relocked-requires
+relocked-requires c κs = search needs
+
+with-probe-requires : tie.Need-with-probe-requires
+with-probe-requires c κs = search needs
+
+changed-requires : tie.Need-changed-requires
+changed-requires c κs = search needs
+
+returns : tie.Need-returns
+unfolding setReadOnly
+returns c = rw (← c .before .before .before .before .before .before .before .before .before .lock-asked .ensures, ← c .before .before .before .before .before .before .before .with-buses .ensures, ← c .before .before .before .before .before .before .is-can-read-only .ensures, ← c .before .before .before .before .before .yes-no .ensures, c .before .before .before .before .if1 .taken, ← c .before .before .relocked .ensures, ← c .before .with-probe .ensures, ← c .changed .ensures)
+
+changed-requires-2 : tie.Need-changed-requires-2
+changed-requires-2 c κs = search needs
+
+returns-2 : tie.Need-returns-2
+unfolding setReadOnly
+returns-2 c = rw (← c .before .before .before .before .before .before .lock-asked .ensures, ← c .before .before .before .before .with-buses .ensures, ← c .before .before .before .is-can-read-only .ensures, ← c .before .before .yes-no .ensures, c .before .if1 .left, ← c .changed2 .ensures)
+
+pub set-can-read-only-spec : {M : Type 1} → statement M
+set-can-read-only-spec =
+    tie.close
+    (tie.spec
+    lock-asked-requires
+    with-buses-requires
+    is-can-read-only-requires
+    yes-no-requires
+    relocked-requires
+    with-probe-requires
+    changed-requires
+    returns
+    changed-requires-2
+    returns-2)

@@ -1,0 +1,38 @@
+use Rattle.car_identity.specs.CarIdentity.{revokePlatform}
+use borrow.Author.Needs.{needs}
+use Rattle.car_identity.proofs.revoke_car_identity.Statement.{statement}
+use Rattle.car_identity.proofs.revoke_car_identity.Tie as tie
+
+relocked-requires : tie.Need-relocked-requires
+relocked-requires c κs = search needs
+
+with-probe-requires : tie.Need-with-probe-requires
+with-probe-requires c κs = search needs
+
+no-car-requires : tie.Need-no-car-requires
+no-car-requires c κs = search needs
+
+with-identity-requires : tie.Need-with-identity-requires
+with-identity-requires c κs = search needs
+
+with-buses-requires : tie.Need-with-buses-requires
+with-buses-requires c κs = search needs
+
+changed-requires : tie.Need-changed-requires
+changed-requires c κs = search needs
+
+returns : tie.Need-returns
+unfolding revokePlatform
+returns c = rw (c .changed .ensures, c .before .with-buses .ensures, c .before .before .before .with-identity .ensures, c .before .before .before .before .before .no-car .ensures, c .before .before .before .before .before .before .before .with-probe .ensures, c .before .before .before .before .before .before .before .before .relocked .ensures)
+
+pub revoke-car-identity-spec : {M : Type 1} → statement M
+revoke-car-identity-spec =
+    tie.close
+    (tie.spec
+    relocked-requires
+    with-probe-requires
+    no-car-requires
+    with-identity-requires
+    with-buses-requires
+    changed-requires
+    returns)

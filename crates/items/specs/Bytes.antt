@@ -1,0 +1,99 @@
+-- Byte values: what the items say, and where they lie in lent memory.
+use mathlib.Core.Path.{_≡_}
+use mathlib.Core.Bool.{Bool, true, false, cond}
+use mathlib.Core.List.{List, [], _∷_, _++_}
+use Prim.Native.Nat.{ℕ, _+_, _/_, _≤_}
+use lib.Dec.{ltb}
+use lib.ListN.{length}
+use Rattle.arrays.specs.Arrays.{put}
+use Rattle.ascii.specs.Ascii.{ascii}
+use Rattle.script.specs.Places.{itemOf}
+use Rattle.script.specs.Values.{isHex, pairsOf}
+use Rattle.script.specs.Words.{part}
+use Rattle.items.specs.declared.Ends.{Ends}
+use Rattle.items.specs.declared.Has.{Has}
+use Rattle.items.specs.declared.LaidValue.{LaidValue}
+use Rattle.items.specs.declared.LaidValues.{LaidValues}
+
+-- ---- what the items say
+
+abbrev pub areBytes : List (List ℕ) → Bool
+areBytes [] = false
+areBytes (v ∷ vs) = isHex v
+
+abbrev pub bytesIn : List (List ℕ) → List ℕ
+bytesIn [] = []
+bytesIn (v ∷ vs) = cond (isHex v) (pairsOf v) []
+
+-- whether the only item with this key is bytes, and the bytes
+unfoldable pub hasBytes : List ℕ → List ℕ → Bool
+hasBytes key line = areBytes (itemOf key line)
+
+unfoldable pub bytesAt : List ℕ → List ℕ → List ℕ
+bytesAt key line = bytesIn (itemOf key line)
+
+unfoldable pub hasAt : List ℕ → Has
+hasAt line = record {
+  phone = hasBytes (ascii "phone") line;
+  method = hasBytes (ascii "method") line;
+  random = hasBytes (ascii "random") line;
+  code = hasBytes (ascii "code") line;
+  stored = hasBytes (ascii "record") line;
+  fingerprint = hasBytes (ascii "fingerprint") line;
+  owner = hasBytes (ascii "owner") line;
+}
+
+-- the byte values of a line
+pub record Bytes : Type 0 where
+  pub phone : List ℕ
+  pub method : List ℕ
+  pub random : List ℕ
+  pub code : List ℕ
+  pub stored : List ℕ
+  pub fingerprint : List ℕ
+  pub owner : List ℕ
+
+unfoldable pub bytesOf : List ℕ → Bytes
+bytesOf line = record {
+  phone = bytesAt (ascii "phone") line;
+  method = bytesAt (ascii "method") line;
+  random = bytesAt (ascii "random") line;
+  code = bytesAt (ascii "code") line;
+  stored = bytesAt (ascii "record") line;
+  fingerprint = bytesAt (ascii "fingerprint") line;
+  owner = bytesAt (ascii "owner") line;
+}
+
+-- ---- where they lie
+
+-- the bytes of memory from a to before e; none if it has no such part
+unfoldable pub lentAt : ℕ → ℕ → List ℕ → List ℕ
+lentAt a e room = cond (ltb (length room) e) [] (cond (ltb e a) [] (part a e room))
+
+unfoldable pub lentBytes : Ends → List ℕ → Bytes
+lentBytes p room = record {
+  phone = lentAt 0 (p .phone) room;
+  method = lentAt (p .phone) (p .method) room;
+  random = lentAt (p .method) (p .random) room;
+  code = lentAt (p .random) (p .code) room;
+  stored = lentAt (p .code) (p .stored) room;
+  fingerprint = lentAt (p .stored) (p .fingerprint) room;
+  owner = lentAt (p .fingerprint) (p .owner) room;
+}
+
+-- the byte values one behind the other
+unfoldable pub joined : Bytes → List ℕ
+joined b = b .phone ++ b .method ++ b .random ++ b .code ++ b .stored ++ b .fingerprint ++ b .owner
+
+-- one value laid down in memory from a place on
+pub record LaidAt (key line before after : List ℕ) (at : ℕ) (r : LaidValue) : Type 0 where
+  pub has : r .ok ≡ hasBytes key line
+  pub end : r .end ≡ at + length (bytesAt key line)
+  pub memory : after ≡ put before at (bytesAt key line)
+  pub near : r .end ≤ at + length line / 2
+
+-- all of them, from the start of the memory on
+pub record LaidAll (line before after : List ℕ) (r : LaidValues) : Type 0 where
+  pub has : r .has ≡ hasAt line
+  pub bytes : lentBytes (r .ends) after ≡ bytesOf line
+  pub memory : after ≡ put before 0 (joined (bytesOf line))

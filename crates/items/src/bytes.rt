@@ -1,0 +1,67 @@
+// Byte values, laid down one behind the other in lent memory.
+use crate::Ends;
+use crate::Has;
+use crate::LaidValue;
+use crate::LaidValues;
+use script::Laid;
+ghost use mathlib.Core.Path.{_≡_};
+ghost use Prim.Native.Nat.{_+_, _*_, _/_, _≤_};
+ghost use lib.ListN.{length};
+ghost use Rattle.items.specs.Bytes.{lentAt, LaidAt, LaidAll};
+
+// The bytes of lent memory from `a` to before `e`; none if it has no such part.
+pub fn lent(room: &[u8], a: usize, e: usize) -> &[u8]
+    ensures { λ r. ⌜ now r ≡ lentAt a e (now (room .entry)) ⌝ }
+{
+    if room.len() < e {
+        return &room[..0];
+    }
+    if e < a {
+        return &room[..0];
+    }
+    &room[a..e]
+}
+
+// Lays the bytes of the only item with this key down from `at` on.
+fn lay(line: &[u8], key: &[u8], room: &mut [u8], at: usize) -> LaidValue
+    requires { ⌜ at + length (now line) / 2 ≤ length (now room) ⌝ }
+    ensures { λ r. ⌜ LaidAt (now (key .entry)) (now (line .entry)) (now (room .entry)) (now (room .exit)) at r ⌝ }
+{
+    let laid = script::values::bytes_of(line, key, room, at);
+    match laid {
+        Laid::To(end) => LaidValue { ok: true, end },
+        Laid::NoBytes => LaidValue { ok: false, end: at },
+    }
+}
+
+pub fn lay_all(line: &[u8], room: &mut [u8]) -> LaidValues
+    requires { ⌜ 7 * length (now line) ≤ 2 * length (now room) ⌝ }
+    ensures { λ r. ⌜ LaidAll (now (line .entry)) (now (room .entry)) (now (room .exit)) r ⌝ }
+{
+    let a = lay(line, b"phone", room, 0);
+    let b = lay(line, b"method", room, a.end);
+    let c = lay(line, b"random", room, b.end);
+    let d = lay(line, b"code", room, c.end);
+    let e = lay(line, b"record", room, d.end);
+    let f = lay(line, b"fingerprint", room, e.end);
+    let g = lay(line, b"owner", room, f.end);
+    let has = Has {
+        phone: a.ok,
+        method: b.ok,
+        random: c.ok,
+        code: d.ok,
+        stored: e.ok,
+        fingerprint: f.ok,
+        owner: g.ok,
+    };
+    let ends = Ends {
+        phone: a.end,
+        method: b.end,
+        random: c.end,
+        code: d.end,
+        stored: e.end,
+        fingerprint: f.end,
+        owner: g.end,
+    };
+    LaidValues { has, ends }
+}

@@ -1,0 +1,58 @@
+-- Text laid down in lent memory, piece by piece.
+use mathlib.Core.Bool.{Bool, cond}
+use mathlib.Core.List.{List, [], _∷_}
+use Prim.Native.Nat.{ℕ, _+_, _/_, _%_}
+use lib.Dec.{eqb, ltb}
+use lib.ListN.{length}
+use Rattle.arrays.specs.Arrays.{put}
+use Rattle.ascii.specs.Ascii.{ascii}
+use Rattle.decimal.specs.Decimal.{decimalOf}
+use Rattle.hex.specs.Hex.{digit, hexOf}
+
+-- the memory, and the place after what was laid down
+pub record Page : Type 0 where
+  pub memory : List ℕ
+  pub place : ℕ
+
+abbrev pub page : List ℕ → ℕ → Page
+page memory place = record { memory = memory; place = place }
+
+-- a page, then what comes next
+infixl 20 _▸_
+abbrev pub _▸_ : Page → (Page → Page) → Page
+p ▸ f = f p
+
+-- a text; what does not fit is left out
+unfoldable pub text : List ℕ → Page → Page
+text s p = cond (ltb (length (p .memory)) (p .place + length s)) p (page (put (p .memory) (p .place) s) (p .place + length s))
+
+-- a number in decimal
+abbrev pub number : ℕ → Page → Page
+number n p = text (decimalOf n) p
+
+-- bytes in hexadecimal
+abbrev pub bytes : List ℕ → Page → Page
+bytes s p = text (hexOf s) p
+
+unfoldable pub yesNo : Bool → Page → Page
+yesNo b p = cond b (text (ascii "yes") p) (text (ascii "no") p)
+
+-- before every place of a list but the first
+unfoldable pub comma : ℕ → Page → Page
+comma i p = cond (eqb i 0) p (text (ascii ",") p)
+
+unfoldable pub item : List ℕ → ℕ → Page → Page
+item key n p = p ▸ text key ▸ number n
+
+unfoldable pub flag : List ℕ → Bool → Page → Page
+flag key b p = p ▸ text key ▸ yesNo b
+
+-- the digit of n for a unit, a power of 16, if n has one
+unfoldable pub digitFrom : ℕ → ℕ → Page → Page
+digitFrom n unit p = cond (ltb n unit) p (text (digit (n / unit % 16) ∷ []) p)
+
+-- a number of 32 bits in hexadecimal, without leading zeros
+unfoldable pub hexadecimal : ℕ → Page → Page
+hexadecimal n p =
+    p ▸ digitFrom n 0x1000_0000 ▸ digitFrom n 0x100_0000 ▸ digitFrom n 0x10_0000 ▸ digitFrom n 0x1_0000
+    ▸ digitFrom n 0x1000 ▸ digitFrom n 0x100 ▸ digitFrom n 0x10 ▸ text (digit (n % 16) ∷ [])

@@ -1,0 +1,75 @@
+// Parts of lines: ids and lists of them, methods, saved records, digits.
+use phones::PhoneId;
+use phones::PhoneList;
+use saved_record::SavedRecord;
+use state::Method;
+ghost use mathlib.Core.Path.{_≡_};
+ghost use mathlib.Core.List.{[]};
+ghost use lib.ListN.{take, getD};
+ghost use Rattle.phones.specs.Phones.{idBytes, phonesOf};
+ghost use Rattle.lines.specs.Page.{page, bytes};
+ghost use Rattle.lines.specs.Parts.{idAt, idsFrom, method, digits};
+
+// An id.
+pub fn put_phone(out: &mut [u8], at: usize, p: PhoneId) -> usize
+    ensures { λ r. ⌜ page (now (out .exit)) r ≡ bytes (idBytes p) (page (now (out .entry)) at) ⌝ }
+{
+    let all = p.bytes;
+    let n = crate::short(p.len, 32);
+    crate::put_bytes(out, at, &all[..n])
+}
+
+// The id at a place of a list.
+fn put_phone_at(out: &mut [u8], at: usize, l: PhoneList, i: usize) -> usize
+    ensures { λ r. ⌜ page (now (out .exit)) r ≡ idAt i (getD (phonesOf l) i []) (page (now (out .entry)) at) ⌝ }
+{
+    let k = crate::put_comma(out, at, i);
+    let p = phones::phone_at(l, i);
+    put_phone(out, k, p)
+}
+
+// The ids of a list.
+pub fn put_phones(out: &mut [u8], at: usize, l: PhoneList) -> usize
+    ensures { λ r. ⌜ page (now (out .exit)) r ≡ idsFrom 0 (phonesOf l) (page (now (out .entry)) at) ⌝ }
+{
+    let n = phones::count(l);
+    let mut k = at;
+    let mut i = 0;
+    while i < n {
+        k = put_phone_at(out, k, l, i);
+        i += 1;
+    }
+    k
+}
+
+// ID/KIND/APPROVAL
+pub fn put_method(out: &mut [u8], at: usize, m: Method) -> usize
+    ensures { λ r. ⌜ page (now (out .exit)) r ≡ method m (page (now (out .entry)) at) ⌝ }
+{
+    let id = m.id;
+    let k = put_phone(out, at, id);
+    let k = crate::put_text(out, k, b"/");
+    let what = m.kind;
+    let k = crate::answer::put_kind(out, k, what);
+    crate::put_flag(out, k, b"/", m.approval)
+}
+
+// A saved record.
+pub fn put_saved(out: &mut [u8], at: usize, saved: SavedRecord) -> usize
+    ensures { λ r. ⌜ page (now (out .exit)) r ≡ bytes (take (saved .len) (saved .bytes)) (page (now (out .entry)) at) ⌝ }
+{
+    let all = saved.bytes;
+    let n = crate::short(saved.len, 1090);
+    crate::put_bytes(out, at, &all[..n])
+}
+
+// The first n digits.
+pub fn put_digits(out: &mut [u8], at: usize, code: [u8; 9], n: usize) -> usize
+    ensures { λ r. ⌜ page (now (out .exit)) r ≡ digits code n (page (now (out .entry)) at) ⌝ }
+{
+    if n == 0 {
+        return crate::put_text(out, at, b"-");
+    }
+    let k = crate::short(n, 9);
+    crate::put_bytes(out, at, &code[..k])
+}

@@ -1,0 +1,175 @@
+// Plays one line of a script on a gate: reads it, makes its call and lays down what it gives. That is `played` of
+// specs/Played.antt, which speaks of the calls by the gate's one definition, `step`.
+use call_names::Name;
+use items::Ends;
+use items::Items;
+use state::Gate;
+use state::Settings;
+use turns::Played;
+ghost use mathlib.Core.Path.{_≡_};
+ghost use Prim.Native.Nat.{_*_, _≤_};
+ghost use lib.ListN.{length};
+ghost use Rattle.arrays.specs.Arrays.{put};
+ghost use Rattle.items.specs.Bytes.{lentBytes, bytesOf, joined};
+ghost use Rattle.lines.specs.Page.{page, text};
+ghost use Rattle.calls.specs.Calls.{lineOf};
+ghost use Rattle.turns.specs.Turns.{turnOf, ran};
+ghost use Rattle.player.specs.Played.{isKnown, begun, errorOf, failed, ended, played, withState, FromBadNew, passedOver, tooLong};
+
+// line=N call=WORD
+fn put_begin(out: &mut [u8], at: usize, number: u64, word: &[u8]) -> usize
+    ensures { λ r. ⌜ page (now (out .exit)) r ≡ begun number (now (word .entry)) (page (now (out .entry)) at) ⌝ }
+{
+    let k = lines::put_item(out, at, b"line=", number);
+    let k = lines::put_text(out, k, b" call=");
+    lines::put_text(out, k, word)
+}
+
+fn is_known(name: Name) -> bool
+    ensures { λ r. ⌜ r ≡ isKnown name ⌝ }
+{
+    match name {
+        Name::New => true,
+        Name::Session(_) => true,
+        Name::Phone(_) => true,
+        Name::Access(_) => true,
+        Name::Probe(_) => true,
+        Name::Note(_) => true,
+        Name::Plain(_) => true,
+        Name::Long(_) => true,
+        Name::SetCounters => true,
+        Name::State => true,
+        Name::Unknown => false,
+    }
+}
+
+// Why a line is no call.
+fn put_error(out: &mut [u8], at: usize, name: Name) -> usize
+    ensures { λ r. ⌜ page (now (out .exit)) r ≡ text (errorOf name) (page (now (out .entry)) at) ⌝ }
+{
+    if is_known(name) {
+        return lines::put_text(out, at, b" error=bad_items");
+    }
+    lines::put_text(out, at, b" error=unknown_call")
+}
+
+// The end of a line.
+fn put_end(r: Played, out: &mut [u8]) -> Played
+    ensures { λ s. ⌜ turnOf s (now (out .exit)) ≡ ended (turnOf r (now (out .entry))) ⌝ }
+{
+    let k = lines::put_text(out, r.at, b"\n");
+    let g = r.gate;
+    Played {
+        gate: g,
+        at: k,
+        called: r.called,
+    }
+}
+
+// A line whose items are right.
+fn play_call(
+    g: Gate,
+    number: u64,
+    word: &[u8],
+    name: Name,
+    i: Items,
+    p: Ends,
+    room: &[u8],
+    out: &mut [u8],
+) -> Played
+    ensures { λ r. ⌜ turnOf r (now (out .exit)) ≡ ended (ran (lineOf name i (lentBytes p (now (room .entry)))) g (begun number (now (word .entry)) (page (now (out .entry)) 0))) ⌝ }
+{
+    let k = put_begin(out, 0, number, word);
+    let r = turns::run(g, name, i, p, room, out, k);
+    put_end(r, out)
+}
+
+// A line that is no call.
+fn play_error(g: Gate, number: u64, name: Name, out: &mut [u8]) -> Played
+    ensures { λ r. ⌜ turnOf r (now (out .exit)) ≡ ended (failed name g number (page (now (out .entry)) 0)) ⌝ }
+{
+    let k = lines::put_item(out, 0, b"line=", number);
+    let k = put_error(out, k, name);
+    let r = turns::not_called(g, k);
+    put_end(r, out)
+}
+
+fn play_line(g: Gate, number: u64, line: &[u8], room: &mut [u8], out: &mut [u8]) -> Played
+    requires { ⌜ 7 * length (now line) ≤ 2 * length (now room) ⌝ }
+    ensures { λ r. ⌜ (turnOf r (now (out .exit)) ≡ played g number (now (line .entry)) (page (now (out .entry)) 0)) × (now (room .exit) ≡ put (now (room .entry)) 0 (joined (bytesOf (now (line .entry))))) ⌝ }
+{
+    let e = script::name_end(line);
+    let name = call_names::name_of(&line[..e]);
+    let read = items::read(line, room);
+    let i = read.items;
+    let p = read.ends;
+    if items::takes::takes(name, i) {
+        return play_call(g, number, &line[..e], name, i, p, room, out);
+    }
+    play_error(g, number, name, out)
+}
+
+// The line, and the state behind every call if that is asked for.
+pub fn play(
+    g: Gate,
+    number: u64,
+    line: &[u8],
+    states: bool,
+    room: &mut [u8],
+    out: &mut [u8],
+) -> Played
+    requires { ⌜ 7 * length (now line) ≤ 2 * length (now room) ⌝ }
+    ensures { λ r. ⌜ (turnOf r (now (out .exit)) ≡ withState states number (played g number (now (line .entry)) (page (now (out .entry)) 0))) × (now (room .exit) ≡ put (now (room .entry)) 0 (joined (bytesOf (now (line .entry))))) ⌝ }
+{
+    let r = play_line(g, number, line, room, out);
+    if states {
+        if r.called {
+            let h = r.gate;
+            let k = put_begin(out, r.at, number, b"state");
+            let k = state_lines::put_gate(out, k, h);
+            let s = Played {
+                gate: h,
+                at: k,
+                called: true,
+            };
+            return put_end(s, out);
+        }
+    }
+    r
+}
+
+// The gate before the first `new`: what 25 hands back.
+pub fn first_gate() -> Gate
+    ensures { λ r. ⌜ FromBadNew r ⌝ }
+{
+    let settings = Settings {
+        digits: 0,
+        tries: 0,
+        session: 0,
+        cooldown: 0,
+        keep: 0,
+        bonded: 0,
+    };
+    let none = state::running::no_method();
+    let list = [none; 8];
+    let made = gate::new_gate(settings, list, 0);
+    made.gate
+}
+
+// Whether a line is passed over: it is empty or begins with `#`.
+pub fn is_passed_over(line: &[u8]) -> bool
+    ensures { λ r. ⌜ r ≡ passedOver (now (line .entry)) ⌝ }
+{
+    if line.len() == 0 {
+        return true;
+    }
+    line[0] == b'#'
+}
+
+// What a line that is too long to be read gives.
+pub fn put_too_long(number: u64, out: &mut [u8]) -> usize
+    ensures { λ r. ⌜ page (now (out .exit)) r ≡ tooLong number (page (now (out .entry)) 0) ⌝ }
+{
+    let k = lines::put_item(out, 0, b"line=", number);
+    lines::put_text(out, k, b" error=line_too_long\n")
+}

@@ -1,0 +1,30 @@
+use Rattle.policy_changes.specs.Changes.{changed}
+use borrow.Author.Needs.{needs}
+use Rattle.policy_changes.proofs.changed.Statement.{statement}
+use Rattle.policy_changes.proofs.changed.Tie as tie
+
+is-can-read-only-requires : tie.Need-is-can-read-only-requires
+is-can-read-only-requires c κs = search needs
+
+read-only-changed-requires : tie.Need-read-only-changed-requires
+read-only-changed-requires c κs = search needs
+
+with-policy-requires : tie.Need-with-policy-requires
+with-policy-requires c κs = search needs
+
+reply-requires : tie.Need-reply-requires
+reply-requires c κs = search needs
+
+returns : tie.Need-returns
+unfolding changed
+returns c = rw (← c .before .before .before .is-can-read-only .ensures, ← c .before .before .read-only-changed .ensures, ← c .before .with-policy .ensures, ← c .reply .ensures)
+
+pub changed-spec : {M : Type 1} → statement M
+changed-spec =
+    tie.close
+    (tie.spec
+    is-can-read-only-requires
+    read-only-changed-requires
+    with-policy-requires
+    reply-requires
+    returns)

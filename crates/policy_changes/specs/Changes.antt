@@ -1,0 +1,52 @@
+-- A policy with one part changed, what is raised for it, and the relock count (can.rs, can_probe.rs).
+use mathlib.Core.Bool.{Bool, true, false}
+use Prim.Native.Nat.{_+_, _%_, _^_}
+use Rattle.state.specs.declared.Car.{Car}
+use Rattle.state.specs.declared.Identity.{Identity}
+use Rattle.state.specs.declared.Access.{Access}
+use Rattle.state.specs.declared.Buses.{Buses}
+use Rattle.state.specs.declared.Policy.{Policy}
+use Rattle.state.specs.declared.Probe.{Probe}
+use Rattle.state.specs.declared.Core.{Core}
+use Rattle.state.specs.declared.Answer.{Answer}
+use Rattle.state.specs.declared.Answer.the-variants.{Yes, No}
+use Rattle.state.specs.declared.Said.{Said}
+use Rattle.state.specs.Parts.{withPolicy}
+use Rattle.state.specs.Replies.{readOnlyChanged, reply}
+use Rattle.policy.specs.Policy.{isReadOnly}
+
+-- ---- a policy with one part changed
+
+abbrev pub withIdentity : Policy → Identity → Policy
+withIdentity p i = record { identity = i; access = p .access; buses = p .buses }
+
+abbrev pub withAccess : Policy → Access → Policy
+withAccess p a = record { identity = p .identity; access = a; buses = p .buses }
+
+abbrev pub withBuses : Policy → Buses → Policy
+withBuses p b = record { identity = p .identity; access = p .access; buses = b }
+
+abbrev pub identityOf : Identity → Bool → Car → Identity
+identityOf i confirmed car = record { platform = i .platform; confirmed = confirmed; car = car }
+
+abbrev pub accessOf : Access → Car → Access
+accessOf a approval = record { approval = approval; unlocked = a .unlocked; production = a .production }
+
+abbrev pub lockedAs : Buses → Bool → Buses
+lockedAs b locked = record { locked = locked; logging = b .logging; fd = b .fd }
+
+-- ---- answers and signals
+
+abbrev pub yesNo : Bool → Answer
+yesNo true = Yes
+yesNo false = No
+
+-- notify_can_read_only_changed after a change of the policy
+unfoldable pub changed : Core → Answer → Policy → Said
+changed c a p = reply (withPolicy c p) a (readOnlyChanged (isReadOnly p))
+
+-- ---- the relock count
+
+-- note_relock: the count wraps
+unfoldable pub relocked : Probe → Probe
+relocked p = record { window = p .window; attempts = p .attempts; relocks = (p .relocks + 1) % 2 ^ 32; marks = p .marks }

@@ -1,0 +1,21 @@
+use Rattle.turns.specs.Turns.{told}
+use borrow.Author.Needs.{needs}
+use Rattle.turns.proofs.put_outcome.Statement.{statement}
+use Rattle.turns.proofs.put_outcome.Tie as tie
+
+put-answer-requires : tie.Need-put-answer-requires
+put-answer-requires c κs = search needs
+
+put-signals-requires : tie.Need-put-signals-requires
+put-signals-requires c κs = search needs
+
+same-length : tie.Need-same-length
+same-length c = search needs
+
+returns : tie.Need-returns
+unfolding told
+returns c = rw (← c .before .before .before .before .before .before .before .before .put-answer .ensures, ← c .before .before .before .put-signals .ensures)
+
+pub put-outcome-spec : {M : Type 1} → statement M
+put-outcome-spec =
+    tie.close (tie.spec put-answer-requires put-signals-requires same-length returns)

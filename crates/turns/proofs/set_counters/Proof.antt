@@ -1,0 +1,15 @@
+use borrow.Author.Needs.{needs}
+use Rattle.turns.proofs.set_counters.Statement.{statement}
+use Rattle.turns.proofs.set_counters.Tie as tie
+
+with-validation-requires : tie.Need-with-validation-requires
+with-validation-requires c κs = search needs
+
+with-probe-requires : tie.Need-with-probe-requires
+with-probe-requires c κs = search needs
+
+returns : tie.Need-returns
+returns c = rw (c .before .with-probe .ensures, c .before .before .with-validation .ensures)
+
+pub set-counters-spec : {M : Type 1} → statement M
+set-counters-spec = tie.close (tie.spec with-validation-requires with-probe-requires returns)

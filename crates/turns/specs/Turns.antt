@@ -1,0 +1,66 @@
+-- What a call gives that a line says: the gate afterwards and the text, by the gate's definition `step`.
+use mathlib.Core.Bool.{Bool, true, false}
+use mathlib.Core.List.{List}
+use Prim.Native.Nat.{ℕ}
+use Rattle.gate.specs.Gate.{Given, given, step}
+use Rattle.lines.specs.Page.{Page, page, _▸_}
+use Rattle.signal_lines.specs.Signals.{signals}
+use Rattle.state_lines.specs.Whole as Whole
+use Rattle.state.specs.Parts.{withValidation, withProbe}
+use Rattle.state.specs.Replies.{noSignals}
+use Rattle.state.specs.declared.Answer.{Answer}
+use Rattle.state.specs.declared.Answer.the-variants.{Done}
+use Rattle.state.specs.declared.Gate.{Gate}
+use Rattle.state.specs.declared.Outcome.{Outcome}
+use Rattle.state.specs.declared.Probe.{Probe as ProbeState}
+use Rattle.state.specs.declared.Validation.{Validation}
+use Rattle.calls.specs.Calls.{Line, call, counters, state, unknown}
+use Rattle.asks.specs.Shown.{shown}
+use Rattle.turns.specs.declared.Played.{Played}
+
+-- the gate, the page, and whether a call was made
+pub record Turn : Type 0 where
+  pub gate : Gate
+  pub page : Page
+  pub called : Bool
+
+-- what the code hands back, with the memory that it laid its text down in
+abbrev pub turnOf : Played → List ℕ → Turn
+turnOf r memory = record { gate = r .gate; page = page memory (r .at); called = r .called }
+
+-- no call was made
+abbrev pub passed : Gate → ℕ → Played
+passed g at = record { gate = g; at = at; called = false }
+
+-- ---- one line that is a call
+
+-- what a call gives: its answer with the values, and the signals
+unfoldable pub told : Given → Page → Turn
+told d p = record { gate = d .gate; page = p ▸ shown (d .answer) ▸ signals (d .signals); called = true }
+
+-- an answer that raises nothing
+abbrev pub quiet : Gate → Answer → Outcome
+quiet g a = record { answer = a; signals = noSignals; gate = g }
+
+-- what stands behind the answer of a query
+abbrev pub calm : Gate → Page → Turn
+calm g p = record { gate = g; page = signals noSignals p; called = true }
+
+-- the gate with another number for its next session and another relock count
+abbrev pub nextIs : Validation → ℕ → Validation
+nextIs v n = record { session = v .session; cooldown = v .cooldown; next = n }
+
+abbrev pub relocksAre : ProbeState → ℕ → ProbeState
+relocksAre b n = record { window = b .window; attempts = b .attempts; relocks = n; marks = b .marks }
+
+abbrev pub withCounters : Gate → ℕ → ℕ → Gate
+withCounters g next relocks = record {
+  core = withProbe (withValidation (g .core) (nextIs (g .core .validation) next)) (relocksAre (g .core .probe) relocks);
+  code = g .code;
+}
+
+abbrev pub ran : Line → Gate → Page → Turn
+ran (call c) g p = told (step g c) p
+ran (counters next relocks) g p = told (given (quiet (withCounters g next relocks) Done)) p
+ran state g p = record { gate = g; page = Whole.gate g p; called = false }
+ran unknown g p = record { gate = g; page = p; called = false }

@@ -1,0 +1,53 @@
+use Rattle.validations.specs.Store.{forgetting}
+use Rattle.validations.proofs.Laws.{store-none, store-some}
+use borrow.Author.Needs.{needs}
+use Rattle.validations.proofs.forgetting.Statement.{statement}
+use Rattle.validations.proofs.forgetting.Tie as tie
+
+contains-requires : tie.Need-contains-requires
+contains-requires c κs = search needs
+
+remove-all-requires : tie.Need-remove-all-requires
+remove-all-requires c κs = search needs
+
+count-requires : tie.Need-count-requires
+count-requires c κs = search needs
+
+no-validations-requires : tie.Need-no-validations-requires
+no-validations-requires c κs = search needs
+
+stored-requires : tie.Need-stored-requires
+stored-requires c κs = search needs
+
+returns : tie.Need-returns
+unfolding forgetting
+returns c = rw (c .stored .ensures, c .before .no-validations .ensures, ← c .before .before .before .before .before .before .contains .ensures, c .before .before .before .before .before .if1 .taken, store-none _ _ _ _ (c .before .before .before .before .remove-all .ensures) (c .before .before .before .count .ensures) (c .before .before .if2 .taken))
+
+stored-requires-2 : tie.Need-stored-requires-2
+stored-requires-2 c κs = search needs
+
+returns-2 : tie.Need-returns-2
+unfolding forgetting
+returns-2 c = rw (c .stored2 .ensures, ← c .before .before .before .before .before .before .contains .ensures, c .before .before .before .before .before .if1 .taken, store-some _ _ _ _ (c .before .before .before .before .remove-all .ensures) (c .before .before .before .count .ensures) (c .before .before .if2 .left))
+
+leave-requires : tie.Need-leave-requires
+leave-requires c κs = search needs
+
+returns-3 : tie.Need-returns-3
+unfolding forgetting
+returns-3 c = rw (c .leave .ensures, ← c .before .before .contains .ensures, c .before .if1 .left)
+
+pub forgetting-spec : {M : Type 1} → statement M
+forgetting-spec =
+    tie.close
+    (tie.spec
+    contains-requires
+    remove-all-requires
+    count-requires
+    no-validations-requires
+    stored-requires
+    returns
+    stored-requires-2
+    returns-2
+    leave-requires
+    returns-3)

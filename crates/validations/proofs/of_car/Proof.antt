@@ -1,0 +1,33 @@
+use borrow.Author.Tests.{lt-ltb, le-ltb}
+use borrow.Author.Needs.{needs}
+use Rattle.validations.proofs.of_car.Statement.{statement}
+use Rattle.validations.proofs.of_car.Tie as tie
+
+count-requires : tie.Need-count-requires
+count-requires c κs = search needs
+
+slice-aggregate-same-bytes : tie.Need-slice-aggregate-same-bytes
+slice-aggregate-same-bytes c = search needs
+
+slice-aggregate-same-bytes-2 : tie.Need-slice-aggregate-same-bytes-2
+slice-aggregate-same-bytes-2 c = search needs
+
+same-bytes-requires : tie.Need-same-bytes-requires
+same-bytes-requires c κs = search needs
+
+returns : tie.Need-returns
+returns c = rw (← c .before .before .before .before .before .count .ensures, lt-ltb _ _ (c .before .before .before .before .if1 .taken), ← c .same-bytes .ensures)
+
+returns-2 : tie.Need-returns-2
+returns-2 c = rw (← c .before .count .ensures, le-ltb _ _ (c .if1 .left))
+
+pub of-car-spec : {M : Type 1} → statement M
+of-car-spec =
+    tie.close
+    (tie.spec
+    count-requires
+    slice-aggregate-same-bytes
+    slice-aggregate-same-bytes-2
+    same-bytes-requires
+    returns
+    returns-2)

@@ -1,0 +1,30 @@
+use Rattle.validations.specs.Store.{stored}
+use borrow.Author.Needs.{needs}
+use Rattle.validations.proofs.stored.Statement.{statement}
+use Rattle.validations.proofs.stored.Tie as tie
+
+record-for-requires : tie.Need-record-for-requires
+record-for-requires c κs = search needs
+
+store-validations-requires : tie.Need-store-validations-requires
+store-validations-requires c κs = search needs
+
+with-validations-requires : tie.Need-with-validations-requires
+with-validations-requires c κs = search needs
+
+reply-requires : tie.Need-reply-requires
+reply-requires c κs = search needs
+
+returns : tie.Need-returns
+unfolding stored
+returns c = rw (c .reply .ensures, c .before .with-validations .ensures, c .before .before .store-validations .ensures, c .before .before .before .record-for .ensures)
+
+pub stored-spec : {M : Type 1} → statement M
+stored-spec =
+    tie.close
+    (tie.spec
+    record-for-requires
+    store-validations-requires
+    with-validations-requires
+    reply-requires
+    returns)
