@@ -10,6 +10,7 @@ use std::fmt;
 pub enum LineError {
     UnknownCall,
     BadItems,
+    LineTooLong,
 }
 
 impl From<BadItems> for LineError {
@@ -23,6 +24,7 @@ impl LineError {
         match self {
             Self::UnknownCall => "unknown_call",
             Self::BadItems => "bad_items",
+            Self::LineTooLong => "line_too_long",
         }
     }
 }

@@ -1,6 +1,6 @@
 //! Runs a script line by line.
 
-use crate::calls::{Call, parse};
+use crate::calls::{Call, LineError, parse};
 use crate::gate::Gate;
 use crate::host::Settings;
 use crate::wrong::{self, Wrong};
@@ -24,12 +24,15 @@ impl From<io::Error> for Stopped {
     }
 }
 
+/// The most bytes of a line.
+const LONGEST_LINE: usize = 16_384;
+
 pub fn replay(script: impl BufRead, mut out: impl Write, options: &Options) -> Result<(), Stopped> {
     let mut gate = Gate::least();
-    for (at, line) in script.lines().enumerate() {
-        let line = line?;
+    // A line ends with byte 10 alone, and the last one also with the script.
+    for (at, line) in script.split(b'\n').enumerate() {
         let number = at + 1;
-        match parse(&line) {
+        match read(&line?) {
             Ok(None) => {}
             Err(error) => writeln!(out, "line={number} error={}", error.name())?,
             Ok(Some(Call::State {})) => print_state(&mut out, number, &gate)?,
@@ -45,6 +48,14 @@ pub fn replay(script: impl BufRead, mut out: impl Write, options: &Options) -> R
     }
     out.flush()?;
     Ok(())
+}
+
+/// No call has a name or an item with bytes that are no text, so these may be read as any others that no call has.
+fn read(line: &[u8]) -> Result<Option<Call>, LineError> {
+    if line.len() > LONGEST_LINE {
+        return Err(LineError::LineTooLong);
+    }
+    parse(&String::from_utf8_lossy(line))
 }
 
 fn print_state(out: &mut impl Write, number: usize, gate: &Gate) -> io::Result<()> {

@@ -42,8 +42,10 @@ use Rattle.pairing.specs.Pairing as Pairing
 use Rattle.validations.specs.Store as Store
 use Rattle.probe_window.specs.Window as Window
 use Rattle.can_probe.specs.Calls as Probe
+use Rattle.can_tx.specs.Tx as Tx
 use Rattle.session.specs.Session as Session
 use Rattle.validation.specs.Calls as Validation
+use Rattle.methods.specs.Notes as Methods
 use Rattle.answers.specs.Answers as Answers
 use Rattle.answers.specs.Query as Query
 use Rattle.answers.specs.Query.{Reply, plain, sessionFor}
@@ -274,11 +276,11 @@ unfolding Window.isOpen Window.isListenOnly Window.idsInRange Window.firstUnsent
 openProbe2 = tt
 
 unfoldable openProbe3 : Unit {0}
-unfolding Window.markedSent Probe.isValidProbe Probe.windowChanged Probe.openProbe Probe.closeProbe Probe.throughWindow
+unfolding Window.markedSent Probe.isValidProbe Probe.windowChanged Probe.openProbe Probe.closeProbe Tx.throughWindow
 openProbe3 = tt
 
 unfoldable openProbe4 : Unit {0}
-unfolding Probe.allowPlatform Probe.allowsCommand Probe.allow Probe.heard
+unfolding Tx.allowPlatform Tx.allowsCommand Tx.allow Probe.heard
 openProbe4 = tt
 
 unfoldable openSessions1 : Unit {0}
@@ -310,7 +312,7 @@ unfolding Validation.submitted Validation.submit Validation.cancel Validation.is
 openSessions7 = tt
 
 unfoldable openSessions8 : Unit {0}
-unfolding Validation.complete Validation.isPlace Validation.noteAvailable Validation.noteContinue
+unfolding Validation.complete Methods.isPlace Methods.noteAvailable Methods.noteContinue
 openSessions8 = tt
 
 unfoldable openAnswers1 : Unit {0}

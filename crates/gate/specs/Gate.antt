@@ -27,7 +27,9 @@ use Rattle.can.specs.Can as Can
 use Rattle.pairing.specs.Pairing as Pairing
 use Rattle.validations.specs.Store as Store
 use Rattle.can_probe.specs.Calls as Probe
+use Rattle.can_tx.specs.Tx as Tx
 use Rattle.validation.specs.Calls as Validation
+use Rattle.methods.specs.Notes as Methods
 use Rattle.answers.specs.Query.{Query, Reply, plain, numberedReply, answerTo}
 use Rattle.new_gate.specs.New.{newGate}
 
@@ -106,13 +108,13 @@ changed c (confirmCarFingerprint fingerprint) = CarIdentity.confirmFingerprint c
 changed c (setCanReadOnly enabled) = Can.setReadOnly c enabled
 changed c (openIdentityProbe bus frames count clock) = Probe.openProbe c bus frames count clock
 changed c closeIdentityProbe = Probe.closeProbe c
-changed c (allowCanTx bus frame class owner clock) = Probe.allow c bus frame class owner clock
+changed c (allowCanTx bus frame class owner clock) = Tx.allow c bus frame class owner clock
 changed c (heardCanFrame bus clock) = Probe.heard c bus clock
 changed c (notePlatformId number) = CarIdentity.notePlatform c number
 changed c (noteCanLogging on) = Can.noteLogging c on
 changed c (noteCanFdBus bus on) = Can.noteFdBus c bus on
-changed c (noteMethodAvailable place on) = Validation.noteAvailable c place on
-changed c (noteMethodCanContinue place on) = Validation.noteContinue c place on
+changed c (noteMethodAvailable place on) = Methods.noteAvailable c place on
+changed c (noteMethodCanContinue place on) = Methods.noteContinue c place on
 
 -- ---- the one definition
 

@@ -269,7 +269,7 @@ pub fn allow_can_tx(
     ensures { λ r. ⌜ given r ≡ step g (change (allowCanTx bus frame class (now (owner .entry)) clock)) ⌝ }
 {
     let core = g.core;
-    let said = can_probe::allow_can_tx(core, bus, frame, class, owner, clock);
+    let said = can_tx::allow_can_tx(core, bus, frame, class, owner, clock);
     answered(g, said)
 }
 
@@ -311,7 +311,7 @@ pub fn note_method_available(g: Gate, place: usize, on: bool) -> Outcome
     ensures { λ r. ⌜ given r ≡ step g (change (noteMethodAvailable place on)) ⌝ }
 {
     let core = g.core;
-    let said = validation::calls::note_method_available(core, place, on);
+    let said = methods::note_method_available(core, place, on);
     answered(g, said)
 }
 
@@ -319,6 +319,6 @@ pub fn note_method_can_continue(g: Gate, place: usize, on: bool) -> Outcome
     ensures { λ r. ⌜ given r ≡ step g (change (noteMethodCanContinue place on)) ⌝ }
 {
     let core = g.core;
-    let said = validation::calls::note_method_can_continue(core, place, on);
+    let said = methods::note_method_can_continue(core, place, on);
     answered(g, said)
 }

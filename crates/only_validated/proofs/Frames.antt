@@ -26,7 +26,7 @@ use Rattle.phone_trust.specs.Trust.{isPaired, ofThisCar, isValidated}
 use Rattle.probe_window.specs.declared.Unsent.{Unsent}
 use Rattle.probe_window.specs.declared.Unsent.the-variants.{At, Nothing}
 use Rattle.probe_window.specs.Window.{isOpen, unsentIn}
-use Rattle.can_probe.specs.Calls.{passed, throughWindow, allowPlatform, allowsCommand, allow}
+use Rattle.can_tx.specs.Tx.{passed, throughWindow, allowPlatform, allowsCommand, allow}
 use Rattle.answers.specs.Query.{plain}
 use Rattle.gate.specs.Gate.{changed, step}
 use Rattle.only_validated.specs.Row.{listed, carNow, Allowed, Sound, MayCommand, MaySend, readWrite, inWindow}

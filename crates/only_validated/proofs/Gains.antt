@@ -44,9 +44,11 @@ use Rattle.phone_trust.specs.Trust as Trust
 use Rattle.probe_window.specs.declared.Unsent.{Unsent}
 use Rattle.probe_window.specs.declared.Unsent.the-variants.{At, Nothing}
 use Rattle.can_probe.specs.Calls as Probe
+use Rattle.can_tx.specs.Tx as Tx
 use Rattle.session.specs.declared.Lapse.the-variants.{Stays, Ends}
 use Rattle.session.specs.Session.{isOf, lostReadWrite, noteAt, cannotGoOn, lapseOf, placeOf}
 use Rattle.validation.specs.Calls as Validation
+use Rattle.methods.specs.Notes as Methods
 use Rattle.validation.specs.Calls.{Check}
 use Rattle.new_gate.specs.New.{newMethods, newCore, leastSettings, madeGate, newGate}
 use Rattle.gate.specs.Gate.{Change, Call, isLent, changed, step}
@@ -91,12 +93,12 @@ keep-prune : (c : Core) → Keeps c (Store.prune c)
 unfolding Store.prune Store.stored retainIn
 keep-prune c = search (keeping, less-kept)
 
-keep-passed : (c : Core) (u : Unsent) → Keeps c (Probe.passed c u)
+keep-passed : (c : Core) (u : Unsent) → Keeps c (Tx.passed c u)
 keep-passed c Nothing = search keeping
 keep-passed c (At i) = search keeping
 
-keep-class : (c : Core) (bus : ℕ) (frame : CanFrame) (owner : List ℕ) (clock : ℕ) (class : TxClass) → Keeps c (Probe.allowClass c bus frame owner clock class)
-unfolding Probe.allowPlatform Probe.throughWindow
+keep-class : (c : Core) (bus : ℕ) (frame : CanFrame) (owner : List ℕ) (clock : ℕ) (class : TxClass) → Keeps c (Tx.allowClass c bus frame owner clock class)
+unfolding Tx.allowPlatform Tx.throughWindow
 keep-class c bus frame owner clock Platform = search (keeping, keep-passed)
 keep-class c bus frame owner clock Command = search keeping
 
@@ -274,7 +276,7 @@ module _ (g : Gate) where
   keep k h = kept _ (g .core) _ h
 
   gain-changed : (k : Change) → Gains (By g (Gate.change k)) (g .core) (changed (g .core) k)
-  unfolding changed Validation.cancel Validation.tick Validation.noteAvailable Validation.noteContinue Pairing.pair Pairing.clear Store.forget Pairing.setPeer Trust.told Store.stored Access.approve Access.approvedAs Access.revokeApproval Access.restoreApproval Access.setDevUnlocked Access.declareProduction CarIdentity.confirmPlatform CarIdentity.revokePlatform CarIdentity.confirmFingerprint CarIdentity.notePlatform Can.noteLogging Can.noteFdBus Changes.changed Probe.openProbe Probe.closeProbe Probe.windowChanged Probe.allow Probe.heard
+  unfolding changed Validation.cancel Validation.tick Methods.noteAvailable Methods.noteContinue Pairing.pair Pairing.clear Store.forget Pairing.setPeer Trust.told Store.stored Access.approve Access.approvedAs Access.revokeApproval Access.restoreApproval Access.setDevUnlocked Access.declareProduction CarIdentity.confirmPlatform CarIdentity.revokePlatform CarIdentity.confirmFingerprint CarIdentity.notePlatform Can.noteLogging Can.noteFdBus Changes.changed Probe.openProbe Probe.closeProbe Probe.windowChanged Tx.allow Probe.heard
   gain-changed (Gate.cancelValidation phone clock) = keep _ (search (keeping, keep-end))
   gain-changed (Gate.completeValidationAction number clock) = gain-complete g number clock
   gain-changed (Gate.tickValidation clock) = gain-ticking _ (g .core) clock _ _ (λ t. kept _ (g .core) _ (search keeping))

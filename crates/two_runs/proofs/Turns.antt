@@ -33,9 +33,11 @@ use Rattle.phone_trust.specs.Trust as Trust
 use Rattle.probe_window.specs.declared.Unsent.{Unsent}
 use Rattle.probe_window.specs.declared.Unsent.the-variants.{At, Nothing}
 use Rattle.can_probe.specs.Calls as Probe
+use Rattle.can_tx.specs.Tx as Tx
 use Rattle.session.specs.declared.Lapse.the-variants.{Stays, Ends}
 use Rattle.session.specs.Session.{endedAs, lapseOf, cannotGoOn}
 use Rattle.validation.specs.Calls as Validation
+use Rattle.methods.specs.Notes as Methods
 use Rattle.gate.specs.Gate.{Change, changed}
 use Rattle.gate.specs.Gate as Gate
 use Rattle.two_runs.specs.Demand.{codeRuns}
@@ -180,12 +182,12 @@ turn-succeed c a clock = turn-ends c _ 0 a _ refl refl zero-le
 
 ruleset turning = (turn-cond, turn-leave, turn-beside, turn-end, turn-succeed)
 
-turn-passed : (c : Core) (u : Unsent) → Turn c 0 (Probe.passed c u)
+turn-passed : (c : Core) (u : Unsent) → Turn c 0 (Tx.passed c u)
 turn-passed c Nothing = search turning
 turn-passed c (At i) = search turning
 
-turn-class : (c : Core) (bus : ℕ) (frame : CanFrame) (owner : List ℕ) (clock : ℕ) (class : TxClass) → Turn c 0 (Probe.allowClass c bus frame owner clock class)
-unfolding Probe.allowPlatform Probe.throughWindow
+turn-class : (c : Core) (bus : ℕ) (frame : CanFrame) (owner : List ℕ) (clock : ℕ) (class : TxClass) → Turn c 0 (Tx.allowClass c bus frame owner clock class)
+unfolding Tx.allowPlatform Tx.throughWindow
 turn-class c bus frame owner clock Platform = search (turning, turn-passed)
 turn-class c bus frame owner clock Command = search turning
 
@@ -200,7 +202,7 @@ turn-locked c true = search turning
 turn-locked c false = search turning
 
 pub turn-changed : (c : Core) (k : Change) → Turn c 0 (changed c k)
-unfolding changed Validation.cancel Validation.complete Validation.completed Validation.tick Validation.noteAvailable Validation.noteContinue Pairing.pair Pairing.unpair Pairing.clear Store.forget Store.prune Pairing.setPeer Store.restore Trust.told Store.stored Access.approve Access.approvedAs Access.revokeApproval Access.restoreApproval Access.setDevUnlocked Access.declareProduction CarIdentity.confirmPlatform CarIdentity.revokePlatform CarIdentity.confirmFingerprint CarIdentity.notePlatform Can.noteLogging Can.noteFdBus Changes.changed Probe.openProbe Probe.closeProbe Probe.windowChanged Probe.allow Probe.heard
+unfolding changed Validation.cancel Validation.complete Validation.completed Validation.tick Methods.noteAvailable Methods.noteContinue Pairing.pair Pairing.unpair Pairing.clear Store.forget Store.prune Pairing.setPeer Store.restore Trust.told Store.stored Access.approve Access.approvedAs Access.revokeApproval Access.restoreApproval Access.setDevUnlocked Access.declareProduction CarIdentity.confirmPlatform CarIdentity.revokePlatform CarIdentity.confirmFingerprint CarIdentity.notePlatform Can.noteLogging Can.noteFdBus Changes.changed Probe.openProbe Probe.closeProbe Probe.windowChanged Tx.allow Probe.heard
 turn-changed c (Gate.cancelValidation phone clock) = search turning
 turn-changed c (Gate.completeValidationAction session clock) = turn-ticking c clock _ _ (search turning)
 turn-changed c (Gate.tickValidation clock) = turn-ticking c clock _ _ (search turning)

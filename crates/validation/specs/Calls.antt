@@ -1,30 +1,27 @@
 -- The calls of a validation session (validation.rs). None is given the digits: start is told whether random bytes were
 -- lent and whether the draw gives a code, submit whether the typed bytes are text and right.
-use mathlib.Core.Bool.{Bool, true, false, cond, not, _&&_, _||_}
+use mathlib.Core.Bool.{Bool, true, cond, not, _&&_}
 use mathlib.Core.List.{List, [], _∷_}
-use Prim.Native.Nat.{ℕ, _+_, _-_}
+use Prim.Native.Nat.{ℕ}
 use lib.Dec.{eqb, ltb, leb}
-use lib.ListN.{length, replicate, set}
+use lib.ListN.{length, replicate}
 use Rattle.phones.specs.Phones.{idBytes, idOf}
 use Rattle.state.specs.declared.Kind.{Kind}
 use Rattle.state.specs.declared.Kind.the-variants.{CodeEntry, InCarAction}
 use Rattle.state.specs.declared.Status.{Status}
-use Rattle.state.specs.declared.Status.the-variants.{InProgress, Succeeded, Failed, Cancelled, TimedOut}
-use Rattle.state.specs.declared.Method.{Method}
-use Rattle.state.specs.declared.Methods.{Methods}
+use Rattle.state.specs.declared.Status.the-variants.{InProgress, Succeeded, Failed, Cancelled}
 use Rattle.state.specs.declared.Session.{Session}
-use Rattle.state.specs.declared.Validation.{Validation}
 use Rattle.state.specs.declared.Core.{Core}
 use Rattle.state.specs.declared.Answer.{Answer}
 use Rattle.state.specs.declared.Answer.the-variants as Answer
 use Rattle.state.specs.declared.Answer.the-variants.{Done, Yes, No, UnknownMethod, CarNotIdentified, CoolingDown, OtherPhoneSession, MethodUnavailable, MethodNotAvailableNow, NoRandomSource, NoSession, NotCodeEntry, WrongCode, IdTooLong, RandomSpent, NotText, ListFull}
 use Rattle.state.specs.declared.Challenge.{Challenge}
 use Rattle.state.specs.declared.Mark.{Mark}
-use Rattle.state.specs.declared.Mark.the-variants.{Blank, Kept, Fresh}
+use Rattle.state.specs.declared.Mark.the-variants.{Blank, Fresh}
 use Rattle.state.specs.declared.Said.{Said}
-use Rattle.state.specs.Parts.{withMethods, withValidations, withValidation}
+use Rattle.state.specs.Parts.{withValidations, withValidation}
 use Rattle.state.specs.Running.{isCode, methodAt, inProgress}
-use Rattle.state.specs.Replies.{noChallenge, phoneAccessChanged, challengeChanged, validated, leave, reply, finish}
+use Rattle.state.specs.Replies.{noChallenge, challengeChanged, validated, leave, finish}
 use Rattle.policy.specs.Policy.{fingerprintConfirmed}
 use Rattle.validations.specs.Store.{recordFor, isFull, validate}
 use Rattle.phone_trust.specs.Trust.{told}
@@ -230,21 +227,3 @@ completed c number clock =
 -- complete_validation_action_at
 unfoldable pub complete : Core → ℕ → ℕ → Said
 complete c number clock = ticking c clock No (completed c number clock) (lapseOf c clock)
-
--- ---- host notes by place; nothing past the methods
-
--- a place of the methods, of which there are at most eight
-unfoldable pub isPlace : Methods → ℕ → Bool
-isPlace m at = ltb at 8 && ltb at (m .count)
-
-unfoldable pub noteAvailable : Core → ℕ → Bool → Said
-noteAvailable c at on =
-    cond (isPlace (c .methods) at)
-    (leave (withMethods c (record { list = c .methods .list; count = c .methods .count; available = set (c .methods .available) at on; continues = c .methods .continues })) Done)
-    (leave c Done)
-
-unfoldable pub noteContinue : Core → ℕ → Bool → Said
-noteContinue c at on =
-    cond (isPlace (c .methods) at)
-    (leave (withMethods c (record { list = c .methods .list; count = c .methods .count; available = c .methods .available; continues = set (c .methods .continues) at on })) Done)
-    (leave c Done)

@@ -1,14 +1,11 @@
-// Tick, cancel, complete and the host notes of a method, on a core in range.
+// Tick, cancel and complete, on a core in range.
 use crate::ends;
 use session::Lapse;
 use state::Answer;
 use state::Core;
-use state::Methods;
 use state::Said;
 use state::Status;
 ghost use mathlib.Core.Path.{_≡_};
-ghost use Prim.Native.Nat.{_<_};
-ghost use lib.ListN.{set};
 ghost use Rattle.validation.specs.Calls as Calls;
 
 pub fn tick_validation(core: Core, clock: u64) -> Said
@@ -68,51 +65,4 @@ pub fn complete_validation_action_at(core: Core, number: u32, clock: u64) -> Sai
         Lapse::Stays => completed(core, number, clock),
         Lapse::Ends(status) => ends::end_session(core, Answer::No, status, clock),
     }
-}
-
-// A place of the methods, of which there are at most eight.
-fn is_place(m: Methods, at: usize) -> bool
-    ensures { λ r. ⌜ r ≡ Calls.isPlace m at ⌝ }
-{
-    if at < 8 {
-        return at < m.count;
-    }
-    false
-}
-
-fn noted(notes: [bool; 8], at: usize, on: bool) -> [bool; 8]
-    requires { ⌜ at < 8 ⌝ }
-    ensures { λ r. ⌜ r ≡ set notes at on ⌝ }
-{
-    let mut n = notes;
-    n[at] = on;
-    n
-}
-
-pub fn note_method_available(core: Core, at: usize, on: bool) -> Said
-    ensures { λ r. ⌜ r ≡ Calls.noteAvailable core at on ⌝ }
-{
-    let mut m = core.methods;
-    if is_place(m, at) {
-        let notes = m.available;
-        let more = noted(notes, at, on);
-        m.available = more;
-        let c = state::parts::with_methods(core, m);
-        return state::replies::leave(c, Answer::Done);
-    }
-    state::replies::leave(core, Answer::Done)
-}
-
-pub fn note_method_can_continue(core: Core, at: usize, on: bool) -> Said
-    ensures { λ r. ⌜ r ≡ Calls.noteContinue core at on ⌝ }
-{
-    let mut m = core.methods;
-    if is_place(m, at) {
-        let notes = m.continues;
-        let more = noted(notes, at, on);
-        m.continues = more;
-        let c = state::parts::with_methods(core, m);
-        return state::replies::leave(c, Answer::Done);
-    }
-    state::replies::leave(core, Answer::Done)
 }

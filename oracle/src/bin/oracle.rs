@@ -1,4 +1,4 @@
-//! Reads a script on standard input, runs it on the compiled source and prints a line for each call (REPLAY.md).
+//! Reads a script on standard input, runs it on the compiled source and prints a line for each call (docs/REPLAY.md).
 
 use oracle::replay::{Options, Stopped, replay};
 use oracle::wrong;

@@ -1,0 +1,11 @@
+//! Links the proved archive and the C reference, which bench/run builds first.
+
+fn main() {
+    let folder = std::env::var("BENCH_LIBRARIES").expect("bench/run names the folder of the two archives");
+    println!("cargo::rerun-if-env-changed=BENCH_LIBRARIES");
+    for name in ["timed", "reference"] {
+        println!("cargo::rerun-if-changed={folder}/lib{name}.a");
+        println!("cargo::rustc-link-lib=static={name}");
+    }
+    println!("cargo::rustc-link-search=native={folder}");
+}

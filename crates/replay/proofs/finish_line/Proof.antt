@@ -1,0 +1,42 @@
+-- The gate is the same whatever was laid down. Assumes nothing.
+use denote.Ref.{now}
+use Rattle.lines.specs.Page.{page}
+use Rattle.replay.specs.Script.{lineIn}
+use mathlib.Core.Path.{ap, _∙_}
+use Rattle.turns.specs.Turns.{Turn}
+use Rattle.replay.proofs.Laws.{gives-gate}
+use borrow.Author.Needs.{needs}
+use Rattle.replay.proofs.finish_line.Statement.{statement}
+use Rattle.replay.proofs.finish_line.Tie as tie
+
+give-line-requires : tie.Need-give-line-requires
+give-line-requires c κs = search needs
+
+print-requires : tie.Need-print-requires
+print-requires c κs = search needs
+
+next-line-requires : tie.Need-next-line-requires
+next-line-requires c κs = search needs
+
+same-length : tie.Need-same-length
+same-length c = search needs
+
+same-length-2 : tie.Need-same-length-2
+same-length-2 c = search needs
+
+returns : tie.Need-returns
+returns c =
+    let a = c .before .before .before .before .before .before .before .before .before .before .before .before .before .before .args in
+    let g = ap (λ (t : Turn). t .gate) (c .before .before .before .before .before .before .before .before .give-line .ensures) ∙ gives-gate (a .states) (a .p .gate) (a .p .number) (lineIn (now (a .line)) (a .p .len)) (page (now (a .out)) 0) in
+    rw (c .next-line .ensures, ← g)
+
+pub finish-line-spec : {M : Type 1} → statement M
+finish-line-spec =
+    tie.close
+    (tie.spec
+    give-line-requires
+    print-requires
+    next-line-requires
+    same-length
+    same-length-2
+    returns)

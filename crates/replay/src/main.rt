@@ -1,0 +1,176 @@
+// Reads a script on standard input, plays it on one gate and prints what each line gives; with the argument `--state` also
+// the gate's state after each call. What is printed of a line is `player::play` of it.
+use libc::STDIN_FILENO;
+use libc::STDOUT_FILENO;
+use state::Gate;
+use turns::Played;
+ghost use mathlib.Core.Bool.{true};
+ghost use mathlib.Core.Path.{_≡_};
+ghost use Prim.Native.Nat.{_*_, _≤_};
+ghost use lib.ListN.{length};
+ghost use Rattle.lines.specs.Page.{page};
+ghost use Rattle.turns.specs.Turns.{turnOf};
+ghost use Rattle.replay.specs.Script.{keptLen, keptIn, lineIn, lineGives, gateAfter, read, readingOf, nextLine};
+
+// The gate, the number of the line that is being read, and how much of it is there; above the room for a line: it is too
+// long. Not `going`: the script has ended, or reading or writing failed.
+struct Replay {
+    gate: Gate,
+    number: u64,
+    len: usize,
+    going: bool,
+}
+
+// Whether the first argument asks for states.
+fn wants_states() -> bool {
+    let mut word = [0u8; 16];
+    let n = os::arg(1, &mut word);
+    arrays::same_bytes(&word[..n], b"--state")
+}
+
+// Puts more of a line behind what is there.
+fn keep(line: &mut [u8], len: usize, more: &[u8]) -> usize
+    ensures { λ r. ⌜ (r ≡ keptLen (now (line .entry)) len (now (more .entry))) × (now (line .exit) ≡ keptIn (now (line .entry)) len (now (more .entry))) ⌝ }
+{
+    if line.len() < len {
+        return len;
+    }
+    if line.len() - len < more.len() {
+        return line.len() + 1;
+    }
+    arrays::put(line, len, more);
+    len + more.len()
+}
+
+// The next line, on this gate.
+fn next_line(p: Replay, gate: Gate, going: bool) -> Replay
+    ensures { λ r. ⌜ r ≡ nextLine (p .number) gate going ⌝ }
+{
+    Replay {
+        gate,
+        number: std::num::wrapping_add_u64(p.number, 1),
+        len: 0,
+        going,
+    }
+}
+
+// Prints the first `at` bytes that were laid down.
+fn print(out: &[u8], at: usize) -> bool {
+    if at <= out.len() {
+        if io::write_all(STDOUT_FILENO, &out[..at]) {
+            return true;
+        }
+        os::fail(b"replay: standard output");
+        return false;
+    }
+    false
+}
+
+// Lays down what a line gives; one that is passed over gives nothing.
+fn give_line(p: Replay, line: &[u8], states: bool, room: &mut [u8], out: &mut [u8]) -> Played
+    requires { ⌜ 7 * length (now line) ≤ 2 * length (now room) ⌝ }
+    ensures { λ r. ⌜ turnOf r (now (out .exit)) ≡ lineGives states (p .gate) (p .number) (lineIn (now (line .entry)) (p .len)) (page (now (out .entry)) 0) ⌝ }
+{
+    let n = p.len;
+    let g = p.gate;
+    if line.len() < n {
+        let k = player::put_too_long(p.number, out);
+        return turns::not_called(g, k);
+    }
+    if player::is_passed_over(&line[..n]) {
+        return turns::not_called(g, 0);
+    }
+    player::play(g, p.number, &line[..n], states, room, out)
+}
+
+fn finish_line(p: Replay, line: &[u8], states: bool, room: &mut [u8], out: &mut [u8]) -> Replay
+    requires { ⌜ 7 * length (now line) ≤ 2 * length (now room) ⌝ }
+    ensures { λ r. ⌜ r ≡ nextLine (p .number) (gateAfter (p .gate) (p .number) (lineIn (now (line .entry)) (p .len))) (r .going) ⌝ }
+{
+    let r = give_line(p, line, states, room, out);
+    let g = r.gate;
+    let going = print(out, r.at);
+    next_line(p, g, going)
+}
+
+// Plays the lines that end in this piece of the script.
+fn read_piece(
+    p: Replay,
+    piece: &[u8],
+    line: &mut [u8],
+    states: bool,
+    room: &mut [u8],
+    out: &mut [u8],
+) -> Replay
+    requires { ⌜ 7 * length (now line) ≤ 2 * length (now room) ⌝ }
+    ensures { λ r. ⌜ (r .going ≡ true → readingOf r (now (line .exit)) ≡ read (length (now (line .entry))) (now (piece .entry)) (readingOf p (now (line .entry)))) ⌝ }
+{
+    let mut q = p;
+    let mut from = 0;
+    while from < piece.len() {
+        let e = script::find(piece, from, 10);
+        q.len = keep(line, q.len, &piece[from..e]);
+        if piece.len() <= e {
+            return q;
+        }
+        q = finish_line(q, line, states, room, out);
+        if q.going {
+            from = e + 1;
+        } else {
+            return q;
+        }
+    }
+    q
+}
+
+// Reads a piece of the script. At its end the last line is played, and then, or if reading fails, it does not go on.
+fn turn(p: Replay, line: &mut [u8], states: bool, room: &mut [u8], out: &mut [u8]) -> Replay
+    requires { ⌜ 7 * length (now line) ≤ 2 * length (now room) ⌝ }
+{
+    let mut piece = io::buffer();
+    let got = libc::read(STDIN_FILENO, &mut piece);
+    let n = io::count(got, &piece);
+    if 0 < n {
+        return read_piece(p, &piece[..n], line, states, room, out);
+    }
+    let g = p.gate;
+    if got < 0 {
+        os::fail(b"replay: standard input");
+        return next_line(p, g, false);
+    }
+    if 0 < p.len {
+        let q = finish_line(p, line, states, room, out);
+        let h = q.gate;
+        return next_line(q, h, false);
+    }
+    next_line(p, g, false)
+}
+
+fn run(line: &mut [u8], room: &mut [u8], out: &mut [u8])
+    requires { ⌜ 7 * length (now line) ≤ 2 * length (now room) ⌝ }
+{
+    let states = wants_states();
+    let first = player::first_gate();
+    let mut p = Replay {
+        gate: first,
+        number: 1,
+        len: 0,
+        going: true,
+    };
+    let mut turns: u64 = 18446744073709551615;
+    while 0 < turns {
+        p = turn(p, line, states, room, out);
+        if p.going {
+            turns -= 1;
+        } else {
+            return;
+        }
+    }
+}
+
+fn main() {
+    let mut line = [0u8; 16384];
+    let mut room = [0u8; 57344];
+    let mut out = [0u8; 16384];
+    run(&mut line, &mut room, &mut out);
+}

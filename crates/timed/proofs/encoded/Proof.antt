@@ -1,0 +1,24 @@
+use mathlib.Core.Path.{_≡_, ap}
+use borrow.Author.Needs.{needs}
+use Rattle.gate.specs.Gate.{Given}
+use Rattle.timed.specs.Rounds.{heard}
+use Rattle.timed.proofs.encoded.Statement.{statement}
+use Rattle.timed.proofs.encoded.Tie as tie
+
+encode-phone-validations-requires : tie.Need-encode-phone-validations-requires
+encode-phone-validations-requires c κs = search needs
+
+record-byte-requires : tie.Need-record-byte-requires
+record-byte-requires c κs = search needs
+
+add-requires : tie.Need-add-requires
+add-requires c κs = search needs
+
+returns : tie.Need-returns
+returns c =
+    let a = c .before .before .before .before .before .args in
+    rw (c .add .ensures, c .before .record-byte .ensures)
+    (ap (λ (x : Given). heard (a .r .sum) x (a .i)) (c .before .before .before .encode-phone-validations .ensures))
+
+pub encoded-spec : {M : Type 1} → statement M
+encoded-spec = tie.close (tie.spec encode-phone-validations-requires record-byte-requires add-requires returns)

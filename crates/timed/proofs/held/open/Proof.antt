@@ -1,0 +1,18 @@
+use borrow.Author.Needs.{needs}
+use Rattle.timed.proofs.held.open.Statement.{statement}
+use Rattle.timed.proofs.held.open.Tie as tie
+
+policy-requires : tie.Need-policy-requires
+policy-requires c κs = search needs
+
+with-policy-requires : tie.Need-with-policy-requires
+with-policy-requires c κs = search needs
+
+with-paired-requires : tie.Need-with-paired-requires
+with-paired-requires c κs = search needs
+
+returns : tie.Need-returns
+returns c = rw (c .with-paired .ensures, c .before .with-policy .ensures, c .before .before .policy .ensures)
+
+pub open-spec : {M : Type 1} → statement M
+open-spec = tie.close (tie.spec policy-requires with-policy-requires with-paired-requires returns)

@@ -1,0 +1,21 @@
+use borrow.Author.Needs.{needs}
+use Rattle.timed.proofs.seen.after.Statement.{statement}
+use Rattle.timed.proofs.seen.after.Tie as tie
+
+told-requires : tie.Need-told-requires
+told-requires c κs = search needs
+
+raised-requires : tie.Need-raised-requires
+raised-requires c κs = search needs
+
+add-requires : tie.Need-add-requires
+add-requires c κs = search needs
+
+add-requires-2 : tie.Need-add-requires-2
+add-requires-2 c κs = search needs
+
+returns : tie.Need-returns
+returns c = rw (c .add2 .ensures, c .before .before .add .ensures, c .before .before .before .raised .ensures, c .before .before .before .before .told .ensures)
+
+pub after-spec : {M : Type 1} → statement M
+after-spec = tie.close (tie.spec told-requires raised-requires add-requires add-requires-2 returns)

@@ -1,0 +1,68 @@
+use borrow.Author.Needs.{needs}
+use mathlib.Core.Path.{_≡_, refl, ap₂, _∙_}
+use Prim.Native.Nat.{_≤_, _-_}
+use denote.Ref.{now}
+use Rattle.frames.specs.declared.CanFrame.{CanFrame}
+use Rattle.frames.specs.declared.TxClass.{TxClass}
+use native.Mathlib.Omega.{arith}
+use Rattle.timed.specs.Held.{ready}
+use Rattle.timed.specs.Rounds.{turns, sumOf, allowed}
+use Rattle.timed.proofs.Laws.{turn-more, sum-is}
+use Rattle.timed.proofs.timed_allows.Statement.{statement}
+use Rattle.timed.proofs.timed_allows.Tie as tie
+
+abbrev Inv-loop : tie.InvT-loop
+Inv-loop n car bytes method command owner r₀ frame class i₀ r i = (i ≤ n) × (r ≡ turns (allowed frame class owner) r₀ i)
+
+abbrev μ-loop : tie.MeasureT-loop
+μ-loop n car bytes method command owner r₀ frame class i₀ r i = n - i
+
+ready-requires : tie.Need-ready-requires Inv-loop μ-loop
+ready-requires c κs = search needs
+
+frame-requires : tie.Need-frame-requires Inv-loop μ-loop
+frame-requires c κs = search needs
+
+class-of-requires : tie.Need-class-of-requires Inv-loop μ-loop
+class-of-requires c κs = search needs
+
+loop-holds : tie.Need-loop-holds Inv-loop μ-loop
+unfolding turns
+loop-holds c = (omega arith, refl)
+
+allowed-requires : tie.Need-allowed-requires Inv-loop μ-loop
+allowed-requires c κs = search needs
+
+add-i : tie.Need-add-i Inv-loop μ-loop
+add-i c = omega (arith, c .before .loop-test .taken, c .before .before .before .before .before .before .before .before .before .before .fits .n)
+
+loop-less : tie.Need-loop-less Inv-loop μ-loop
+loop-less c = omega (arith, c .before .loop-test .taken)
+
+loop-again : tie.Need-loop-again Inv-loop μ-loop
+loop-again c =
+    let l = c .before .before .loop in
+    (omega (arith, c .before .loop-test .taken), turn-more _ _ (l .i) (l .inv .1) (c .allowed .ensures))
+
+returns : tie.Need-returns Inv-loop μ-loop
+returns c =
+    let l = c .before .loop in
+    let a = c .before .before .before .before .before .before .before .before .before .args in
+    sum-is _ _ _ (l .i) _ (l .inv .1) (c .before .before .before .before .ready .ensures) (omega (arith, l .inv .0, c .loop-test .left))
+    ∙ ap₂ (λ (f : CanFrame) (k : TxClass). sumOf (allowed f k (now (a .owner))) (ready (now (a .car)) (now (a .bytes)) (now (a .method))) (a .n)) (c .before .before .before .frame .ensures) (c .before .before .class-of .ensures)
+
+pub timed-allows-spec : {M : Type 1} → statement M
+timed-allows-spec =
+    tie.close
+    (tie.spec
+    Inv-loop
+    μ-loop
+    ready-requires
+    frame-requires
+    class-of-requires
+    loop-holds
+    allowed-requires
+    add-i
+    loop-less
+    loop-again
+    returns)

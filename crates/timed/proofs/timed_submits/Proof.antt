@@ -1,0 +1,62 @@
+use borrow.Author.Needs.{needs}
+use mathlib.Core.Path.{_≡_, refl, ap, _∙_}
+use Prim.Native.Nat.{_≤_, _-_}
+use denote.Ref.{now}
+use Rattle.timed.specs.declared.held.Run.{Run}
+use native.Mathlib.Omega.{arith}
+use Rattle.timed.specs.Rounds.{turns, submitted, tried}
+use Rattle.timed.proofs.Laws.{turn-more, sum-is}
+use Rattle.timed.proofs.timed_submits.Statement.{statement}
+use Rattle.timed.proofs.timed_submits.Tie as tie
+
+abbrev Inv-loop : tie.InvT-loop
+Inv-loop n car bytes phone method random typed r₀ i₀ r i = (i ≤ n) × (r ≡ turns (tried phone method random typed) r₀ i)
+
+abbrev μ-loop : tie.MeasureT-loop
+μ-loop n car bytes phone method random typed r₀ i₀ r i = n - i
+
+ready-requires : tie.Need-ready-requires Inv-loop μ-loop
+ready-requires c κs = search needs
+
+loop-holds : tie.Need-loop-holds Inv-loop μ-loop
+unfolding turns
+loop-holds c = (omega arith, refl)
+
+started-requires : tie.Need-started-requires Inv-loop μ-loop
+started-requires c κs = search needs
+
+submitted-requires : tie.Need-submitted-requires Inv-loop μ-loop
+submitted-requires c κs = search needs
+
+add-i : tie.Need-add-i Inv-loop μ-loop
+add-i c = omega (arith, c .before .before .loop-test .taken, c .before .before .before .before .before .before .before .before .before .before .before .fits .n)
+
+loop-less : tie.Need-loop-less Inv-loop μ-loop
+loop-less c = omega (arith, c .before .before .loop-test .taken)
+
+loop-again : tie.Need-loop-again Inv-loop μ-loop
+loop-again c =
+    let l = c .before .before .before .loop in
+    let a = c .before .before .before .before .before .before .before .before .before .before .before .args in
+    let both = c .submitted .ensures ∙ ap (λ (x : Run). submitted (now (a .phone)) (now (a .typed)) x (l .i)) (c .before .started .ensures) in
+    (omega (arith, c .before .before .loop-test .taken), turn-more _ _ (l .i) (l .inv .1) both)
+
+returns : tie.Need-returns Inv-loop μ-loop
+returns c =
+    let l = c .before .loop in
+    sum-is _ _ _ (l .i) _ (l .inv .1) (c .before .before .ready .ensures) (omega (arith, l .inv .0, c .loop-test .left))
+
+pub timed-submits-spec : {M : Type 1} → statement M
+timed-submits-spec =
+    tie.close
+    (tie.spec
+    Inv-loop
+    μ-loop
+    ready-requires
+    loop-holds
+    started-requires
+    submitted-requires
+    add-i
+    loop-less
+    loop-again
+    returns)
