@@ -3,18 +3,13 @@ use Rattle.player.proofs.Laws.{over-empty, over-first}
 use borrow.Author.Needs.{needs}
 use Rattle.player.proofs.is_passed_over.Statement.{statement}
 use Rattle.player.proofs.is_passed_over.Tie as tie
-use Rattle.player.proofs.is_passed_over.Reads as reads
-use Rattle.player.proofs.is_passed_over.Lts as lts
 
--- src/lib.rt:247:9
 returns : tie.Need-returns
 returns c = over-empty (now (c .before .args .line)) (c .if1 .taken)
 
--- src/lib.rt:249:5
 shared-slice-read-result : tie.Need-shared-slice-read-result
 shared-slice-read-result c = search needs
 
--- src/lib.rt:243:1
 returns-2 : tie.Need-returns-2
 returns-2 c = over-first (now (c .before .before .args .line)) (c .before .if1 .left)
 
