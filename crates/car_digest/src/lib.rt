@@ -23,7 +23,7 @@ pub struct Digested {
 }
 
 // The digest of a car: SHA-256 over a fixed string, the platform number and the fingerprint. A fingerprint above 4,096
-// bytes has none: `ok` is false, and the digest is zeros.
+// bytes has none: `ok` is false, and the digest is zeros. Only the first block is copied; the rest is read where it lies.
 pub fn car_digest(platform: u32, fingerprint: &[u8]) -> Digested
     ensures { λ r. ⌜ r ≡ carDigest platform (now (fingerprint .entry)) ⌝ }
 {
@@ -33,12 +33,23 @@ pub fn car_digest(platform: u32, fingerprint: &[u8]) -> Digested
             digest: [0u8; 32],
         };
     }
-    let mut m = [0u8; 4126];
-    arrays::put(&mut m, 0, b"opencar/can-rw-approval/v1");
-    arrays::put(&mut m, 26, &little4(platform));
-    arrays::put(&mut m, 30, fingerprint);
+    let mut b = [0u8; 64];
+    arrays::put(&mut b, 0, b"opencar/can-rw-approval/v1");
+    arrays::put(&mut b, 26, &little4(platform));
+    if fingerprint.len() < 34 {
+        arrays::put(&mut b, 30, fingerprint);
+        let n = 30 + fingerprint.len();
+        let d = sha256::sha256(&b[..n]);
+        return Digested {
+            ok: true,
+            digest: d,
+        };
+    }
+    arrays::put(&mut b, 30, &fingerprint[..34]);
+    let h = sha256::initial();
+    let g = sha256::hash_blocks(h, &b);
     let n = 30 + fingerprint.len();
-    let d = sha256::sha256(&m[..n]);
+    let d = sha256::finish(g, &fingerprint[34..], n as u64);
     Digested {
         ok: true,
         digest: d,

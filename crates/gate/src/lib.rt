@@ -5,43 +5,40 @@ use frames::ProbeFrame;
 use frames::TxClass;
 use state::Answer;
 use state::Car;
-use state::Core;
 use state::Gate;
 use state::Method;
 use state::Outcome;
 use state::Said;
 use state::Settings;
 ghost use mathlib.Core.Path.{_≡_};
-ghost use Rattle.state.specs.Replies.{noCode, fill};
+ghost use Rattle.state.specs.declared.Answer.the-variants.{BadSettings};
+ghost use Rattle.state.specs.Replies.{noCode, leave, fill};
 ghost use Rattle.range.specs.Range as Range;
 ghost use Rattle.gate.specs.Gate.{NewFrom, startValidation, submitValidationCode, change, given, step};
 ghost use Rattle.gate.specs.Gate.{cancelValidation, completeValidationAction, tickValidation, addPairedPhone, removePairedPhone, clearPairedPhones, forgetPhoneValidation, prunePhoneValidations, setBlePeer, restorePhoneValidations, approveCanReadWrite, revokeCanReadWriteApproval, restoreCanReadWriteApproval, setCanDevWriteUnlocked, declareProductionBuild, confirmCarIdentity, revokeCarIdentity, confirmCarFingerprint, setCanReadOnly, openIdentityProbe, closeIdentityProbe, allowCanTx, heardCanFrame, notePlatformId, noteCanLogging, noteCanFdBus, noteMethodAvailable, noteMethodCanContinue};
 
-// 25 first: a gate out of range stays as it is.
-fn served(core: Core, said: Said) -> Said
-    ensures { λ r. ⌜ r ≡ Range.served core said ⌝ }
-{
-    if range::in_range(core) {
-        return said;
-    }
-    state::replies::leave(core, Answer::BadSettings)
-}
-
-// What an operation on the core says, with digits where they belong: the gate's, or those drawn now.
-fn filled(g: Gate, drawn: [u8; 9], said: Said) -> Outcome
-    ensures { λ r. ⌜ r ≡ fill (g .code) drawn (Range.served (g .core) said) ⌝ }
+// 25: a gate out of range stays as it is.
+fn unserved(g: Gate) -> Outcome
+    ensures { λ r. ⌜ r ≡ fill (g .code) noCode (leave (g .core) BadSettings) ⌝ }
 {
     let core = g.core;
     let held = g.code;
-    let all = served(core, said);
-    state::replies::fill(held, drawn, all)
+    let none = [0u8; 9];
+    let stays = state::replies::leave(core, Answer::BadSettings);
+    state::replies::fill(held, none, stays)
 }
 
+// What an operation on the core says, with digits where they belong, if the gate is in range.
 fn answered(g: Gate, said: Said) -> Outcome
     ensures { λ r. ⌜ r ≡ fill (g .code) noCode (Range.served (g .core) said) ⌝ }
 {
-    let none = [0u8; 9];
-    filled(g, none, said)
+    let core = g.core;
+    if range::in_range(core) {
+        let held = g.code;
+        let none = [0u8; 9];
+        return state::replies::fill(held, none, said);
+    }
+    unserved(g)
 }
 
 // ---- new gate
@@ -59,21 +56,29 @@ pub fn start_validation(g: Gate, phone: &[u8], method: &[u8], clock: u64, random
     ensures { λ r. ⌜ given r ≡ step g (startValidation (now (phone .entry)) (now (method .entry)) clock (now (random .entry))) ⌝ }
 {
     let core = g.core;
-    let drawn = draw::draw(random, core.settings.digits);
-    let said = start::start_validation(core, phone, method, clock, 0 < random.len(), drawn.ok);
-    let fresh = drawn.code;
-    filled(g, fresh, said)
+    if range::in_range(core) {
+        let held = g.code;
+        let drawn = draw::draw(random, core.settings.digits);
+        let fresh = drawn.code;
+        let said = start::start_validation(core, phone, method, clock, 0 < random.len(), drawn.ok);
+        return state::replies::fill(held, fresh, said);
+    }
+    unserved(g)
 }
 
 pub fn submit_validation_code(g: Gate, phone: &[u8], typed: &[u8], clock: u64) -> Outcome
     ensures { λ r. ⌜ given r ≡ step g (submitValidationCode (now (phone .entry)) (now (typed .entry)) clock) ⌝ }
 {
     let core = g.core;
-    let held = g.code;
-    let is_text = text::is_text(typed);
-    let is_right = text::is_right(held, core.settings.digits, typed);
-    let said = submit::submit_validation_code(core, phone, clock, is_text, is_right);
-    answered(g, said)
+    if range::in_range(core) {
+        let held = g.code;
+        let none = [0u8; 9];
+        let is_text = text::is_text(typed);
+        let is_right = text::is_right(held, core.settings.digits, typed);
+        let said = submit::submit_validation_code(core, phone, clock, is_text, is_right);
+        return state::replies::fill(held, none, said);
+    }
+    unserved(g)
 }
 
 pub fn cancel_validation(g: Gate, phone: &[u8], clock: u64) -> Outcome
@@ -269,8 +274,13 @@ pub fn allow_can_tx(
     ensures { λ r. ⌜ given r ≡ step g (change (allowCanTx bus frame class (now (owner .entry)) clock)) ⌝ }
 {
     let core = g.core;
-    let said = can_tx::allow_can_tx(core, bus, frame, class, owner, clock);
-    answered(g, said)
+    if range::in_range(core) {
+        let held = g.code;
+        let none = [0u8; 9];
+        let said = can_tx::allow_can_tx(core, bus, frame, class, owner, clock);
+        return state::replies::fill(held, none, said);
+    }
+    unserved(g)
 }
 
 pub fn heard_can_frame(g: Gate, bus: u8, clock: u64) -> Outcome

@@ -7,14 +7,14 @@ use Prim.Native.Nat.{ℕ, zero, suc, _+_, _-_, _≤_, _<_}
 use native.Mathlib.Omega.{arith}
 use borrow.Author.Tests.{lt-ltb, le-ltb, ltb-false, eq-eqb, ne-eqb}
 use lib.Dec.{eqb, ltb}
-use lib.ListN.{length, take, drop, getD, replicate, drop-of-length-le, length-append, length-drop}
+use lib.ListN.{length, take, drop, getD, set, replicate, drop-of-length-le, length-append, length-drop}
 use lib.Seq.{drop-cons, take-all, length-take-le}
 use Rattle.arrays.specs.Arrays.{put}
 use Rattle.arrays.proofs.Laws.{cond-same}
 use Rattle.phones.specs.declared.PhoneList.{PhoneList}
 use Rattle.phones.specs.declared.MadeId.{MadeId}
-use Rattle.phones.specs.Phones.{idBytes, madeId, phonesOf, listOf, appended}
-use Rattle.phones.proofs.Laws.{bytes-of-id, phones-of-list}
+use Rattle.phones.specs.Phones.{idOf, madeId, listOf}
+use Rattle.phones.proofs.Build.{stored}
 use Rattle.saved_record.specs.declared.Decoded.{Decoded}
 use Rattle.saved_record.specs.declared.RecordAnswer.the-variants.{Restored, Malformed}
 use Rattle.saved_record.specs.SavedRecord.{malformed, before, readPhones, readCounted, anyLong, overLimits, judged, decodedBody, decoded, refusal, restored}
@@ -230,16 +230,16 @@ module _ (car : List ℕ) (count : ℕ) (fields : List ℕ) (phones : PhoneList)
         rw (k .reading, read-first left rest n some-left e there)
         (long-judged car done (take n (drop 1 rest)) (readPhones (left - 1) (drop (1 + n) rest)) (rw first-length h))
 
-    pub kept-step : (made : MadeId) (next : PhoneList) → n ≤ 32 → made ≡ madeId (take (1 + n - 1) (drop 1 rest)) → next ≡ appended phones (idBytes (made .id))
-        → Kept car count fields next (take (length rest - (1 + n)) (drop (1 + n) rest)) (left - 1) (done ++ (take n (drop 1 rest) ∷ []))
-    unfolding madeId appended
-    kept-step made next h em en =
+    pub kept-step : (made : MadeId) → n ≤ 32 → made ≡ madeId (take (1 + n - 1) (drop 1 rest))
+        → Kept car count fields (record { ids = set (phones .ids) (count - left) (made .id); count = count - left + 1 }) (take (length rest - (1 + n)) (drop (1 + n) rest)) (left - 1) (done ++ (take n (drop 1 rest) ∷ []))
+    unfolding madeId
+    kept-step made h em =
         let m = k .many in
-        let ps : phonesOf phones ≡ done = rw (k .list) (phones-of-list done) in
         let w : 1 + n - 1 ≡ n = omega arith in
+        let id : made .id ≡ idOf (take n (drop 1 rest)) = rw (em, w, first-length, le-ltb 32 n h) in
         record {
           within = tail-length rest (1 + n) (k .within);
-          list = rw (en, em, w, first-length, le-ltb 32 n h, bytes-of-id (take n (drop 1 rest)), ps, lt-ltb (length done) 32 (omega arith));
+          list = stored phones (made .id) done (take n (drop 1 rest)) (count - left) (k .list) id (omega arith) (omega arith);
           many = rw length-append (omega arith);
           short = none-long done (take n (drop 1 rest)) (k .short) (rw first-length h);
           reading =

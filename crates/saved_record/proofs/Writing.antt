@@ -1,16 +1,16 @@
 -- Steps of the loop that writes: the record so far, zeros past it.
 use mathlib.Core.Path.{_≡_, refl, ap, ap₂, sym, _∙_}
 use mathlib.Core.List.{List, [], _∷_, _++_, append-assoc, append-nil}
-use Prim.Native.Nat.{ℕ, suc, _+_, _-_, _*_, _≤_, _<_}
+use Prim.Native.Nat.{ℕ, suc, _+_, _-_, _*_, _≤_, _<_, min}
 use native.Mathlib.Numerals.{add-one}
 use native.Mathlib.Omega.{arith}
-use lib.ListN.{length, take, drop, getD, set, replicate, take-append-drop, length-append, length-replicate}
-use lib.Seq.{length-take-le, append-snoc, take-all, take-suc, take-suc-set, drop-drop, drop-set-lt}
+use lib.ListN.{length, take, drop, getD, set, replicate, take-append-drop, length-append}
+use lib.Seq.{append-snoc, take-all, take-suc, take-suc-set, drop-drop, drop-set-lt}
 use Rattle.arrays.specs.Arrays.{padded, put}
 use Rattle.arrays.proofs.Laws.{padded-push, put-take, put-drop, put-length, put-padded}
 use Rattle.phones.specs.declared.PhoneId.{PhoneId}
-use Rattle.phones.specs.Phones.{idBytes, idOf}
-use Rattle.phones.proofs.Laws.{bytes-of-id}
+use Rattle.phones.specs.Phones.{idBytes}
+use Rattle.phones.proofs.Laws.{bytes-used, used-length}
 use Rattle.saved_record.specs.declared.SavedRecord.{SavedRecord}
 use Rattle.saved_record.specs.SavedRecord.{field, fields, encoded, recordOf}
 
@@ -21,26 +21,18 @@ put-field d at v s h =
     let e : at + 1 + length s ≡ at + suc (length s) = omega arith in
     rw (e, drop-set-lt (at + suc (length s)) d at v (omega arith), add-one, take-suc-set d at v h, append-assoc (take at d) (v ∷ []) s)
 
-module _ (p : PhoneId) (long : length (p .bytes) ≡ 32) (fits : p .len ≤ 32) where
-  id-length : length (take (p .len) (p .bytes)) ≡ p .len
-  id-length = length-take-le (p .len) (p .bytes) (omega arith)
+-- an id of which n bytes are in use
+module _ (p : PhoneId) (n : ℕ) (long : length (p .bytes) ≡ 32) (e : n ≡ min (p .len) 32) where
+  id-length : length (idBytes p) ≡ n
+  id-length = used-length p long ∙ sym e
 
-  pub field-length : (at : ℕ) → at + 1 + p .len ≡ at + length (field (idBytes p))
-  unfolding field idBytes
+  pub field-length : (at : ℕ) → at + 1 + n ≡ at + length (field (idBytes p))
+  unfolding field
   field-length at = rw id-length (omega arith)
 
-  pub put-id : (d : List ℕ) (at : ℕ) → at < length d → put (set d at (p .len)) (at + 1) (take (p .len) (p .bytes)) ≡ put d at (field (idBytes p))
-  unfolding field idBytes
-  put-id d at h = rw (put-field d at (p .len) (take (p .len) (p .bytes)) h, id-length)
-
--- an id that was made of a string fits
-pub id-fits : (p : PhoneId) (s : List ℕ) → p ≡ idOf s → length (p .bytes) ≡ 32 → p .len ≤ 32
-unfolding idOf padded
-id-fits p s e h =
-    let b : length (s ++ replicate (32 - length s) 0) ≡ 32 = ap (λ (q : PhoneId). length (q .bytes)) (sym e) ∙ h in
-    let a = length-append s (replicate (32 - length s) 0) in
-    let r = length-replicate {A = ℕ} (32 - length s) 0 in
-    rw e (omega arith)
+  pub put-id : (d : List ℕ) (at : ℕ) → at < length d → put (set d at n) (at + 1) (take n (p .bytes)) ≡ put d at (field (idBytes p))
+  unfolding field
+  put-id d at h = rw (bytes-used p n long e, put-field d at n (idBytes p) h, id-length)
 
 -- a string right after one that was written
 put-put : (d : List ℕ) (at : ℕ) (s t : List ℕ) → at + length s ≤ length d → put (put d at s) (at + length s) t ≡ put d at (s ++ t)
@@ -74,26 +66,29 @@ unfolding fields put
 written-none ps head h =
     record { upto = omega arith; long = h; place = refl; room = omega arith; holds = sym (rw (append-nil (take 34 head)) (take-append-drop 34 head)) }
 
-module _ (ps : List (List ℕ)) (head bytes : List ℕ) (at i : ℕ) (w : Written ps head bytes at i) (p : PhoneId) (id-long : length (p .bytes) ≡ 32) (more : i < length ps) (e : p ≡ idOf (getD ps i [])) where
-  next-fields : fields (take (i + 1) ps) ≡ fields (take i ps) ++ field (idBytes p)
-  next-fields = rw (add-one, take-suc ps i [] more, fields-more (take i ps) (getD ps i []), e, bytes-of-id (getD ps i []))
+field-size : (s : List ℕ) → length (field s) ≡ 1 + length s
+unfolding field
+field-size s = omega arith
 
-  pub written-more : (next : List ℕ) (to : ℕ) → length head ≡ 1090 → i < 32 → to ≡ at + length (field (idBytes p)) → next ≡ put bytes at (field (idBytes p)) → Written ps head next to (i + 1)
+module _ (ps : List (List ℕ)) (head bytes : List ℕ) (at i : ℕ) (w : Written ps head bytes at i) (s : List ℕ) (short : length s ≤ 32) (more : i < length ps) (e : s ≡ getD ps i []) where
+  next-fields : fields (take (i + 1) ps) ≡ fields (take i ps) ++ field s
+  next-fields = rw (add-one, take-suc ps i [] more, fields-more (take i ps) (getD ps i []), e)
+
+  pub written-more : (next : List ℕ) (to : ℕ) → length head ≡ 1090 → i < 32 → to ≡ at + length (field s) → next ≡ put bytes at (field s) → Written ps head next to (i + 1)
   written-more next to far few et en =
       let pl = w .place in
-      let b = id-fits p (getD ps i []) e id-long in
       let r = w .room in
       let wl = w .long in
-      let l = field-length p id-long b at in
-      let a = length-append (fields (take i ps)) (field (idBytes p)) in
+      let l = field-size s in
+      let a = length-append (fields (take i ps)) (field s) in
       record {
         upto = omega arith;
         place = rw (et, next-fields) (omega arith);
         room = omega arith;
-        long = rw (en, put-length bytes at (field (idBytes p)) (omega arith), wl);
+        long = rw (en, put-length bytes at (field s) (omega arith), wl);
         holds =
             rw (en, w .holds, pl, next-fields)
-            (put-put head 34 (fields (take i ps)) (field (idBytes p)) (omega arith));
+            (put-put head 34 (fields (take i ps)) (field s) (omega arith));
       }
 
 -- ---- the bytes before the phones

@@ -2,7 +2,7 @@
 use phones::PhoneId;
 use phones::PhoneList;
 ghost use mathlib.Core.Path.{_≡_};
-ghost use Prim.Native.Nat.{_+_, _≤_};
+ghost use Prim.Native.Nat.{_+_, _≤_, min};
 ghost use lib.ListN.{length};
 ghost use Rattle.arrays.specs.Arrays.{put};
 ghost use Rattle.phones.specs.Phones.{idBytes, phonesOf};
@@ -28,12 +28,19 @@ pub struct Decoded {
     pub phones: PhoneList,
 }
 
+// A length, at most 32.
+fn clamp(n: usize) -> usize
+    ensures { λ r. ⌜ r ≡ min n 32 ⌝ }
+{
+    if n < 32 { n } else { 32 }
+}
+
 // Writes a phone at `at`, a length byte and its bytes, and tells the place after it.
 fn put_phone(out: &mut [u8], at: usize, p: PhoneId) -> usize
-    requires { ⌜ (p .len ≤ 32) × (at + 33 ≤ length (now out)) ⌝ }
+    requires { ⌜ at + 33 ≤ length (now out) ⌝ }
     ensures { λ r. ⌜ (r ≡ at + length (field (idBytes p))) × (now (out .exit) ≡ put (now (out .entry)) at (field (idBytes p))) ⌝ }
 {
-    let n = p.len;
+    let n = clamp(p.len);
     let bytes = p.bytes;
     out[at] = n as u8;
     arrays::put(out, at + 1, &bytes[..n]);
@@ -55,7 +62,7 @@ pub fn encode_phone_validations(car: [u8; 32], phones: PhoneList) -> SavedRecord
     let mut at = 34;
     let mut i = 0;
     while i < n {
-        let p = phones::phone_at(phones, i);
+        let p = phones.ids[i];
         at = put_phone(&mut bytes, at, p);
         i += 1;
     }
@@ -130,7 +137,9 @@ fn read_phones(car: [u8; 32], count: usize, fields: &[u8]) -> Decoded
         let end = 1 + len;
         let made = phones::make_id(&rest[1..end]);
         let id = made.id;
-        phones = phones::append(phones, id);
+        let k = count - left;
+        phones.ids[k] = id;
+        phones.count = k + 1;
         rest = &rest[end..];
         left -= 1;
     }

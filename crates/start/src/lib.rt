@@ -13,8 +13,15 @@ ghost use Prim.Native.Nat.{_≤_};
 ghost use lib.ListN.{length};
 ghost use Rattle.state.specs.Running.{inProgress};
 ghost use Rattle.session.specs.Session.{isOf};
-ghost use Rattle.validation.specs.Calls.{newSession, challengeFor, startAs, startAt};
+ghost use Rattle.validation.specs.Calls.{newSession, challengeFor, startAt};
 ghost use Rattle.validation.specs.Calls as Calls;
+ghost use Rattle.start.specs.Way.{wayAs, taken};
+
+// What a start comes to: it is refused, or a session begins whose digits come from the mark.
+enum Way {
+    Refused(Answer),
+    Begins(Mark),
+}
 
 // A session as it begins.
 fn new_session(core: Core, phone: &[u8], at: usize, clock: u64) -> Session
@@ -79,28 +86,19 @@ fn begin(core: Core, phone: &[u8], at: usize, clock: u64, mark: Mark) -> Said
 }
 
 // Only code entry draws.
-fn start_as(
-    core: Core,
-    phone: &[u8],
-    at: usize,
-    clock: u64,
-    lent: bool,
-    gives: bool,
-    kind: Kind,
-) -> Said
-    requires { ⌜ length (now phone) ≤ 32 ⌝ }
-    ensures { λ r. ⌜ r ≡ startAs core (now (phone .entry)) at clock lent gives kind ⌝ }
+fn way_as(lent: bool, gives: bool, kind: Kind) -> Way
+    ensures { λ r. ⌜ r ≡ wayAs lent gives kind ⌝ }
 {
     match kind {
-        Kind::InCarAction => begin(core, phone, at, clock, Mark::Blank),
+        Kind::InCarAction => Way::Begins(Mark::Blank),
         Kind::CodeEntry => {
             if lent {
                 if gives {
-                    return begin(core, phone, at, clock, Mark::Fresh);
+                    return Way::Begins(Mark::Fresh);
                 }
-                return state::replies::leave(core, Answer::RandomSpent);
+                return Way::Refused(Answer::RandomSpent);
             }
-            state::replies::leave(core, Answer::NoRandomSource)
+            Way::Refused(Answer::NoRandomSource)
         }
     }
 }
@@ -115,39 +113,38 @@ fn runs_for_other(s: Session, phone: &[u8]) -> bool
     false
 }
 
-fn start_at(core: Core, phone: &[u8], at: usize, clock: u64, lent: bool, gives: bool) -> Said
-    ensures { λ r. ⌜ r ≡ startAt core (now (phone .entry)) at clock lent gives ⌝ }
+// Decided before anything large is copied.
+fn way_at(core: Core, phone: &[u8], at: usize, clock: u64, lent: bool, gives: bool) -> Way
+    requires { ⌜ length (now phone) ≤ 32 ⌝ }
+    ensures { λ r. ⌜ taken core (now (phone .entry)) at clock r ≡ startAt core (now (phone .entry)) at clock lent gives ⌝ }
 {
-    if 32 < phone.len() {
-        return state::replies::leave(core, Answer::IdTooLong);
-    }
     let methods = core.methods;
     if methods.count <= at {
-        return state::replies::leave(core, Answer::UnknownMethod);
+        return Way::Refused(Answer::UnknownMethod);
     }
     let identity = core.policy.identity;
     if policy::is_car_fingerprint_confirmed(identity) {
         let until = core.validation.cooldown;
         if clock < until {
             let left = session::seconds_to(until, clock);
-            return state::replies::leave(core, Answer::CoolingDown(left));
+            return Way::Refused(Answer::CoolingDown(left));
         }
         let s = core.validation.session;
         if runs_for_other(s, phone) {
-            return state::replies::leave(core, Answer::OtherPhoneSession);
+            return Way::Refused(Answer::OtherPhoneSession);
         }
         let method = state::running::method_at(methods, at);
         if session::lost_read_write(core, method) {
-            return state::replies::leave(core, Answer::MethodUnavailable);
+            return Way::Refused(Answer::MethodUnavailable);
         }
         let notes = methods.available;
         if session::note_at(notes, at) {
             let kind = method.kind;
-            return start_as(core, phone, at, clock, lent, gives, kind);
+            return way_as(lent, gives, kind);
         }
-        return state::replies::leave(core, Answer::MethodNotAvailableNow);
+        return Way::Refused(Answer::MethodNotAvailableNow);
     }
-    state::replies::leave(core, Answer::CarNotIdentified)
+    Way::Refused(Answer::CarNotIdentified)
 }
 
 // `lent`: some random byte is lent; `gives`: the draw gives a code.
@@ -163,5 +160,12 @@ pub fn start_validation(
 {
     let methods = core.methods;
     let at = session::place_of(methods, method);
-    start_at(core, phone, at, clock, lent, gives)
+    if 32 < phone.len() {
+        return state::replies::leave(core, Answer::IdTooLong);
+    }
+    let way = way_at(core, phone, at, clock, lent, gives);
+    match way {
+        Way::Refused(answer) => state::replies::leave(core, answer),
+        Way::Begins(mark) => begin(core, phone, at, clock, mark),
+    }
 }

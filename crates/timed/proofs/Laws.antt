@@ -3,8 +3,18 @@ use mathlib.Core.Path.{_≡_, sym, ap, ap₂, _∙_}
 use Prim.Native.Nat.{ℕ, _+_}
 use native.Mathlib.Numerals.{add-one}
 use Rattle.state.specs.declared.Gate.{Gate}
+use Rattle.state.specs.declared.Outcome.{Outcome}
+use Rattle.gate.specs.Gate.{Given, given}
 use Rattle.timed.specs.declared.held.Run.{Run}
-use Rattle.timed.specs.Rounds.{turns, first, sumOf}
+use Rattle.timed.specs.Rounds.{after, turns, first, sumOf}
+
+-- the gate and the sum that a loop holds
+abbrev pub runOf : Gate → ℕ → Run
+runOf g sum = record { gate = g; sum = sum }
+
+-- both after a call
+pub run-after : (m i : ℕ) (o : Outcome) {s : ℕ} {t : Given} → s ≡ after m (given o) i .sum → given o ≡ t → runOf (o .gate) s ≡ after m t i
+run-after m i o e h = ap (λ (x : ℕ). runOf (o .gate) x) e ∙ ap (λ (x : Given). after m x i) h
 
 -- one turn more
 pub turn-more : (f : Run → ℕ → Run) (r₀ : Run) (i : ℕ) {r s : Run} → r ≡ turns f r₀ i → s ≡ f r i → s ≡ turns f r₀ (i + 1)

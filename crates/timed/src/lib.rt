@@ -3,8 +3,6 @@
 pub mod held;
 pub mod seen;
 
-use frames::CanFrame;
-use frames::TxClass;
 use held::Run;
 ghost use mathlib.Core.Path.{_≡_};
 ghost use Rattle.car_digest.specs.CarDigest.{carDigest};
@@ -21,38 +19,6 @@ pub extern "C" fn timed_digest(platform: u32, fingerprint: &[u8], out: &mut [u8;
     let digest = d.digest;
     *out = digest;
     d.ok
-}
-
-fn started(r: Run, phone: &[u8], method: &[u8], random: &[u8], i: u64) -> Run
-    ensures { λ s. ⌜ s ≡ Rounds.started (now (phone .entry)) (now (method .entry)) (now (random .entry)) r i ⌝ }
-{
-    let g = r.gate;
-    let o = gate::start_validation(g, phone, method, i, random);
-    seen::after(r.sum, o, i)
-}
-
-fn submitted(r: Run, phone: &[u8], typed: &[u8], i: u64) -> Run
-    ensures { λ s. ⌜ s ≡ Rounds.submitted (now (phone .entry)) (now (typed .entry)) r i ⌝ }
-{
-    let g = r.gate;
-    let o = gate::submit_validation_code(g, phone, typed, i);
-    seen::after(r.sum, o, i)
-}
-
-fn allowed(r: Run, frame: CanFrame, class: TxClass, owner: &[u8], i: u64) -> Run
-    ensures { λ s. ⌜ s ≡ Rounds.allowed frame class (now (owner .entry)) r i ⌝ }
-{
-    let g = r.gate;
-    let o = gate::allow_can_tx(g, frame.bus, frame, class, owner, i);
-    seen::after(r.sum, o, i)
-}
-
-fn restored(r: Run, bytes: &[u8], i: u64) -> Run
-    ensures { λ s. ⌜ s ≡ Rounds.restored (now (bytes .entry)) r i ⌝ }
-{
-    let g = r.gate;
-    let o = gate::restore_phone_validations(g, bytes);
-    seen::after(r.sum, o, i)
 }
 
 // A query raises nothing.
@@ -79,15 +45,17 @@ pub extern "C" fn timed_starts(
     ensures { λ r. ⌜ r ≡ sumOf (Rounds.started (now (phone .entry)) (now (method .entry)) (now (random .entry))) (ready (now (car .entry)) (now (bytes .entry)) (now (method .entry))) n ⌝ }
 {
     let digest = *car;
-    let gate = held::ready(digest, bytes, method);
-    let mut r = Run { gate, sum: 0 };
+    let mut g = held::ready(digest, bytes, method);
+    let mut sum = 0;
     let mut i = 0;
     while i < n {
-        let next = started(r, phone, method, random, i);
-        r = next;
+        let o = gate::start_validation(g, phone, method, i, random);
+        sum = seen::after(sum, o, i);
+        let next = o.gate;
+        g = next;
         i += 1;
     }
-    r.sum
+    sum
 }
 
 // `n` times a start and a typed code.
@@ -104,16 +72,20 @@ pub extern "C" fn timed_submits(
     ensures { λ r. ⌜ r ≡ sumOf (tried (now (phone .entry)) (now (method .entry)) (now (random .entry)) (now (typed .entry))) (ready (now (car .entry)) (now (bytes .entry)) (now (method .entry))) n ⌝ }
 {
     let digest = *car;
-    let gate = held::ready(digest, bytes, method);
-    let mut r = Run { gate, sum: 0 };
+    let mut g = held::ready(digest, bytes, method);
+    let mut sum = 0;
     let mut i = 0;
     while i < n {
-        let next = started(r, phone, method, random, i);
-        let judged = submitted(next, phone, typed, i);
-        r = judged;
+        let o = gate::start_validation(g, phone, method, i, random);
+        sum = seen::after(sum, o, i);
+        let begun = o.gate;
+        let p = gate::submit_validation_code(begun, phone, typed, i);
+        sum = seen::after(sum, p, i);
+        let next = p.gate;
+        g = next;
         i += 1;
     }
-    r.sum
+    sum
 }
 
 // `n` frames, each of the platform's or each of a command of `owner`.
@@ -129,17 +101,19 @@ pub extern "C" fn timed_allows(
     ensures { λ r. ⌜ r ≡ sumOf (Rounds.allowed frame (classOf command) (now (owner .entry))) (ready (now (car .entry)) (now (bytes .entry)) (now (method .entry))) n ⌝ }
 {
     let digest = *car;
-    let gate = held::ready(digest, bytes, method);
-    let mut r = Run { gate, sum: 0 };
+    let mut g = held::ready(digest, bytes, method);
+    let mut sum = 0;
     let frame = held::frame();
     let class = held::class_of(command);
     let mut i = 0;
     while i < n {
-        let next = allowed(r, frame, class, owner, i);
-        r = next;
+        let o = gate::allow_can_tx(g, frame.bus, frame, class, owner, i);
+        sum = seen::after(sum, o, i);
+        let next = o.gate;
+        g = next;
         i += 1;
     }
-    r.sum
+    sum
 }
 
 // `n` times the record restored.
@@ -148,15 +122,17 @@ pub extern "C" fn timed_restores(n: u64, car: &[u8; 32], bytes: &[u8], method: &
     ensures { λ r. ⌜ r ≡ sumOf (Rounds.restored (now (bytes .entry))) (ready (now (car .entry)) (now (bytes .entry)) (now (method .entry))) n ⌝ }
 {
     let digest = *car;
-    let gate = held::ready(digest, bytes, method);
-    let mut r = Run { gate, sum: 0 };
+    let mut g = held::ready(digest, bytes, method);
+    let mut sum = 0;
     let mut i = 0;
     while i < n {
-        let next = restored(r, bytes, i);
-        r = next;
+        let o = gate::restore_phone_validations(g, bytes);
+        sum = seen::after(sum, o, i);
+        let next = o.gate;
+        g = next;
         i += 1;
     }
-    r.sum
+    sum
 }
 
 // `n` times the record written.

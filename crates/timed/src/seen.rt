@@ -1,5 +1,4 @@
 // What a round looks at in what a call gives, as one number.
-use crate::held::Run;
 use saved_record::SavedRecord;
 use state::Answer;
 use state::Challenge;
@@ -113,14 +112,12 @@ fn told(a: Answer) -> u32
     }
 }
 
-// The sum and the gate after a call.
-pub fn after(sum: u32, o: Outcome, i: u64) -> Run
-    ensures { λ r. ⌜ r ≡ Rounds.after sum (given o) i ⌝ }
+// The sum after a call.
+pub fn after(sum: u32, o: Outcome, i: u64) -> u32
+    ensures { λ r. ⌜ r ≡ Rounds.after sum (given o) i .sum ⌝ }
 {
     let answer = o.answer;
     let signals = o.signals;
     let more = add(told(answer), raised(signals, i));
-    let gate = o.gate;
-    let next = add(sum, more);
-    Run { gate, sum: next }
+    add(sum, more)
 }

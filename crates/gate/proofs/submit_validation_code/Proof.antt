@@ -1,7 +1,11 @@
+use Rattle.range.specs.Range as Range
 use borrow.Author.Needs.{needs}
 use Rattle.gate.specs.Gate.{step}
 use Rattle.gate.proofs.submit_validation_code.Statement.{statement}
 use Rattle.gate.proofs.submit_validation_code.Tie as tie
+
+in-range-requires : tie.Need-in-range-requires
+in-range-requires c κs = search needs
 
 is-text-requires : tie.Need-is-text-requires
 is-text-requires c κs = search needs
@@ -12,25 +16,29 @@ is-right-requires c κs = search needs
 submit-validation-code-requires : tie.Need-submit-validation-code-requires
 submit-validation-code-requires c κs = search needs
 
-answered-requires : tie.Need-answered-requires
-answered-requires c κs = search needs
+fill-requires : tie.Need-fill-requires
+fill-requires c κs = search needs
 
 returns : tie.Need-returns
-unfolding step
-returns c =
-    rw (
-      c .answered .ensures,
-      c .before .submit-validation-code .ensures,
-      c .before .before .is-right .ensures,
-      c .before .before .before .is-text .ensures,
-    )
+unfolding step Range.served
+returns c = rw (c .fill .ensures, c .before .submit-validation-code .ensures, c .before .before .is-right .ensures, c .before .before .before .is-text .ensures, ← c .before .before .before .before .before .before .in-range .ensures, c .before .before .before .before .before .if1 .taken)
+
+unserved-requires : tie.Need-unserved-requires
+unserved-requires c κs = search needs
+
+returns-2 : tie.Need-returns-2
+unfolding step Range.served
+returns-2 c = rw (c .unserved .ensures, ← c .before .before .in-range .ensures, c .before .if1 .left)
 
 pub submit-validation-code-spec : {M : Type 1} → statement M
 submit-validation-code-spec =
     tie.close
     (tie.spec
+    in-range-requires
     is-text-requires
     is-right-requires
     submit-validation-code-requires
-    answered-requires
-    returns)
+    fill-requires
+    returns
+    unserved-requires
+    returns-2)

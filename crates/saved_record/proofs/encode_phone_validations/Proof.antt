@@ -3,10 +3,12 @@ use mathlib.Core.Path.{_≡_, sym, _∙_}
 use Prim.Native.Nat.{_-_, _≤_}
 use native.Mathlib.Omega.{arith}
 use borrow.Author.Needs.{needs}
-use lib.ListN.{length, length-set}
-use Rattle.phones.proofs.Owned.{owned-count}
-use Rattle.phones.specs.Phones.{phonesOf}
-use Rattle.saved_record.proofs.Writing.{Written, written-none, written-more, id-fits, record-empty, record-written}
+use lib.ListN.{length, getD, length-set}
+use Rattle.phones.proofs.Laws.{noId, phones-at}
+use Rattle.phones.proofs.Owned.{owned-count, owned-short}
+use Rattle.phones.proofs.Range.{Short}
+use Rattle.phones.specs.Phones.{idBytes, phonesOf}
+use Rattle.saved_record.proofs.Writing.{Written, written-none, written-more, record-empty, record-written}
 use Rattle.saved_record.proofs.encode_phone_validations.Statement.{statement}
 use Rattle.saved_record.proofs.encode_phone_validations.Tie as tie
 
@@ -20,7 +22,7 @@ count-requires : tie.Need-count-requires Inv-loop μ-loop
 count-requires c κs = search needs
 
 returns : tie.Need-returns Inv-loop μ-loop
-returns c = record-empty (c .before .before .args .t1) (phonesOf (c .before .before .args .phones)) (sym (c .before .count .ensures) ∙ c .if1 .taken)
+returns c = record-empty (c .before .before .args .t1) (phonesOf (c .before .before .args .t2)) (sym (c .before .count .ensures) ∙ c .if1 .taken)
 
 array-write-bytes : tie.Need-array-write-bytes Inv-loop μ-loop
 array-write-bytes c = search needs
@@ -36,7 +38,7 @@ put-requires c κs = search needs
 
 cast-bytes : tie.Need-cast-bytes Inv-loop μ-loop
 cast-bytes c =
-    let few : length (phonesOf (c .before .before .before .before .before .before .args .phones)) ≤ 32 = search (needs, owned-count) in
+    let few : length (phonesOf (c .before .before .before .before .before .before .args .t2)) ≤ 32 = search (needs, owned-count) in
     omega arith
 
 array-write-bytes-2 : tie.Need-array-write-bytes-2 Inv-loop μ-loop
@@ -45,17 +47,24 @@ array-write-bytes-2 c = search needs
 loop-holds : tie.Need-loop-holds Inv-loop μ-loop
 loop-holds c = written-none _ _ (rw length-set (c .before .put .kept .0 ∙ simp length-set))
 
-phone-at-requires : tie.Need-phone-at-requires Inv-loop μ-loop
-phone-at-requires c κs = search needs
+mul-p : tie.Need-mul-p Inv-loop μ-loop
+mul-p c =
+    let few : length (phonesOf (c .before .before .before .before .before .before .before .before .args .t2)) ≤ 32 = search (needs, owned-count) in
+    omega arith
+
+element-copy-out-p : tie.Need-element-copy-out-p Inv-loop μ-loop
+element-copy-out-p c =
+    let few : length (phonesOf (c .before .before .before .before .before .before .before .before .args .t2)) ≤ 32 = search (needs, owned-count) in
+    omega arith
 
 slice-aggregate-put-phone : tie.Need-slice-aggregate-put-phone Inv-loop μ-loop
 slice-aggregate-put-phone c = sym (c .before .before .before .loop .inv .long)
 
 put-phone-requires : tie.Need-put-phone-requires Inv-loop μ-loop
 put-phone-requires c κs =
-    let few : length (phonesOf (c .before .before .before .before .before .before .before .before .before .before .args .phones)) ≤ 32 = search (needs, owned-count) in
-    let idl : length (c .before .phone-at .result .bytes) ≡ 32 = search needs in
-    (id-fits _ _ (c .before .phone-at .ensures) idl, let w = c .before .before .before .loop .inv in omega arith)
+    let few : length (phonesOf (c .before .before .before .before .before .before .before .before .before .before .args .t2)) ≤ 32 = search (needs, owned-count) in
+    let w = c .before .before .before .loop .inv in
+    omega arith
 
 add-i : tie.Need-add-i Inv-loop μ-loop
 add-i c = search needs
@@ -65,9 +74,12 @@ loop-less c = search needs
 
 loop-again : tie.Need-loop-again Inv-loop μ-loop
 loop-again c =
-    let few : length (phonesOf (c .before .before .before .before .before .before .before .before .before .before .before .before .args .phones)) ≤ 32 = search (needs, owned-count) in
-    let idl : length (c .before .before .before .phone-at .result .bytes) ≡ 32 = search needs in
-    written-more _ _ _ _ _ (c .before .before .before .before .before .loop .inv) (c .before .before .before .phone-at .result) idl (omega arith) (c .before .before .before .phone-at .ensures) _ _ (rw length-set (c .before .before .before .before .before .before .before .put .kept .0 ∙ simp length-set)) (omega arith) (c .before .put-phone .ensures .0) (c .before .put-phone .ensures .1)
+    let l = c .before .before .before .before .before .before .before .before .before .before .before .before .args .t2 in
+    let few : length (phonesOf l) ≤ 32 = search (needs, owned-count) in
+    let short : Short (phonesOf l) = search (needs, owned-short) in
+    let i = c .before .before .before .before .before .loop .i in
+    let e = sym (phones-at l i (omega arith)) in
+    written-more _ _ _ _ _ (c .before .before .before .before .before .loop .inv) (idBytes (getD (l .ids) i noId)) (rw e (short i)) (omega arith) e _ _ (rw length-set (c .before .before .before .before .before .before .before .put .kept .0 ∙ simp length-set)) (omega arith) (c .before .put-phone .ensures .0) (c .before .put-phone .ensures .1)
 
 returns-2 : tie.Need-returns-2 Inv-loop μ-loop
 returns-2 c =
@@ -89,7 +101,8 @@ encode-phone-validations-spec =
     cast-bytes
     array-write-bytes-2
     loop-holds
-    phone-at-requires
+    mul-p
+    element-copy-out-p
     slice-aggregate-put-phone
     put-phone-requires
     add-i

@@ -7,6 +7,9 @@ use Rattle.saved_record.proofs.Writing.{field-length, put-id}
 use Rattle.saved_record.proofs.put_phone.Statement.{statement}
 use Rattle.saved_record.proofs.put_phone.Tie as tie
 
+clamp-requires : tie.Need-clamp-requires
+clamp-requires c κs = search needs
+
 cast-out : tie.Need-cast-out
 cast-out c = search needs
 
@@ -17,13 +20,13 @@ add-put : tie.Need-add-put
 add-put c = search needs
 
 array-share-prefix-bytes : tie.Need-array-share-prefix-bytes
-array-share-prefix-bytes c = let far : length (c .before .before .before .args .p .bytes) ≡ 32 = search needs in omega arith
+array-share-prefix-bytes c = let far : length (c .before .before .before .before .args .p .bytes) ≡ 32 = search needs in omega arith
 
 slice-aggregate-put : tie.Need-slice-aggregate-put
-slice-aggregate-put c = let far : length (c .before .before .before .before .args .p .bytes) ≡ 32 = search needs in rw length-take (omega arith)
+slice-aggregate-put c = let far : length (c .before .before .before .before .before .args .p .bytes) ≡ 32 = search needs in rw length-take (omega arith)
 
 put-requires : tie.Need-put-requires
-put-requires c κs = let far : length (c .before .before .before .before .args .p .bytes) ≡ 32 = search needs in rw (length-set, length-take) (omega arith)
+put-requires c κs = let far : length (c .before .before .before .before .before .args .p .bytes) ≡ 32 = search needs in rw (length-set, length-take) (omega arith)
 
 add-result : tie.Need-add-result
 add-result c = search needs
@@ -36,14 +39,16 @@ same-length c = c .before .before .put .kept .0 ∙ simp length-set
 
 returns : tie.Need-returns
 returns c =
-    let s = c .before .before .before .before .before .before .before in
+    let s = c .before .before .before .before .before .before .before .before in
+    let n = c .before .before .before .before .before .before .clamp in
     let far : length (s .args .p .bytes) ≡ 32 = search needs in
-    (field-length (s .args .p) far (s .pre .0) (s .args .at), c .before .before .put .ensures ∙ put-id (s .args .p) far (s .pre .0) (s .args .out .now) (s .args .at) (omega arith))
+    (field-length (s .args .p) (n .result) far (n .ensures) (s .args .at), c .before .before .put .ensures ∙ put-id (s .args .p) (n .result) far (n .ensures) (s .args .out .now) (s .args .at) (omega arith))
 
 pub put-phone-spec : {M : Type 1} → statement M
 put-phone-spec =
     tie.close
     (tie.spec
+    clamp-requires
     cast-out
     slice-write-out
     add-put

@@ -77,14 +77,23 @@ part-make-id-end c = first-fits (c .before .before .before .before .loop .rest .
 make-id-requires : tie.Need-make-id-requires Inv-loop μ-loop
 make-id-requires c κs = search needs
 
-append-requires : tie.Need-append-requires Inv-loop μ-loop
-append-requires c κs = search needs
+sub-k : tie.Need-sub-k Inv-loop μ-loop
+sub-k c = let m = c .before .before .before .before .before .before .before .loop .inv .1 .many in omega arith
+
+mul-id : tie.Need-mul-id Inv-loop μ-loop
+mul-id c = let m = c .before .before .before .before .before .before .before .loop .inv .1 .many in omega arith
+
+element-set-from-id : tie.Need-element-set-from-id Inv-loop μ-loop
+element-set-from-id c = let m = c .before .before .before .before .before .before .before .loop .inv .1 .many in omega arith
+
+add-phones : tie.Need-add-phones Inv-loop μ-loop
+add-phones c = let m = c .before .before .before .before .before .before .before .loop .inv .1 .many in omega arith
 
 sub-rest : tie.Need-sub-rest Inv-loop μ-loop
-sub-rest c = first-fits (c .before .before .before .before .before .before .before .before .loop .rest .now) (c .before .before .before .before .before .before .first-length .result) (c .before .before .before .before .before .before .first-length .ensures) (c .before .before .before .before .before .if2 .left)
+sub-rest c = first-fits (c .before .before .before .before .before .before .before .loop .rest .now) (c .before .before .before .before .before .first-length .result) (c .before .before .before .before .before .first-length .ensures) (c .before .before .before .before .if2 .left)
 
 part-rest-start : tie.Need-part-rest-start Inv-loop μ-loop
-part-rest-start c = first-fits (c .before .before .before .before .before .before .before .before .loop .rest .now) (c .before .before .before .before .before .before .first-length .result) (c .before .before .before .before .before .before .first-length .ensures) (c .before .before .before .before .before .if2 .left)
+part-rest-start c = first-fits (c .before .before .before .before .before .before .before .loop .rest .now) (c .before .before .before .before .before .first-length .result) (c .before .before .before .before .before .first-length .ensures) (c .before .before .before .before .if2 .left)
 
 part-rest-end : tie.Need-part-rest-end Inv-loop μ-loop
 part-rest-end c = search needs
@@ -97,10 +106,10 @@ loop-less c = search needs
 
 loop-again : tie.Need-loop-again Inv-loop μ-loop
 loop-again c =
-    let at = c .before .before .before .before .before .before .before .before .before .loop in
-    let first = c .before .before .before .before .before .before .before .first-length in (
+    let at = c .before .before .before .before .before .before .before .before .loop in
+    let first = c .before .before .before .before .before .before .first-length in (
       _,
-      kept-step _ _ _ _ _ _ _ (c .before .before .before .before .before .before .before .before .before .before .before .if1 .left) (at .inv .1) (first .result) (c .before .before .before .before .before .before .before .before .loop-test .taken) (first .ensures) (c .before .before .before .before .before .before .if2 .left) (c .before .before .before .make-id .result) (c .before .append .result) (c .before .before .before .before .before .if3 .left) (c .before .before .before .make-id .ensures) (c .before .append .ensures),
+      kept-step _ _ _ _ _ _ _ (c .before .before .before .before .before .before .before .before .before .before .if1 .left) (at .inv .1) (first .result) (c .before .before .before .before .before .before .before .loop-test .taken) (first .ensures) (c .before .before .before .before .before .if2 .left) (c .before .before .make-id .result) (c .before .before .before .before .if3 .left) (c .before .before .make-id .ensures),
     )
 
 refused-requires-4 : tie.Need-refused-requires-4 Inv-loop μ-loop
@@ -139,7 +148,10 @@ read-phones-spec =
     part-make-id-start
     part-make-id-end
     make-id-requires
-    append-requires
+    sub-k
+    mul-id
+    element-set-from-id
+    add-phones
     sub-rest
     part-rest-start
     part-rest-end

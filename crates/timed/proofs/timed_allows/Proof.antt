@@ -6,16 +6,16 @@ use Rattle.frames.specs.declared.CanFrame.{CanFrame}
 use Rattle.frames.specs.declared.TxClass.{TxClass}
 use native.Mathlib.Omega.{arith}
 use Rattle.timed.specs.Held.{ready}
-use Rattle.timed.specs.Rounds.{turns, sumOf, allowed}
-use Rattle.timed.proofs.Laws.{turn-more, sum-is}
+use Rattle.timed.specs.Rounds.{turns, first, sumOf, allowed}
+use Rattle.timed.proofs.Laws.{runOf, run-after, turn-more, sum-is}
 use Rattle.timed.proofs.timed_allows.Statement.{statement}
 use Rattle.timed.proofs.timed_allows.Tie as tie
 
 abbrev Inv-loop : tie.InvT-loop
-Inv-loop n car bytes method command owner r₀ frame class i₀ r i = (i ≤ n) × (r ≡ turns (allowed frame class owner) r₀ i)
+Inv-loop n car bytes method command owner g₀ sum₀ frame class i₀ g sum i = (i ≤ n) × (runOf g sum ≡ turns (allowed frame class owner) (first g₀) i)
 
 abbrev μ-loop : tie.MeasureT-loop
-μ-loop n car bytes method command owner r₀ frame class i₀ r i = n - i
+μ-loop n car bytes method command owner g₀ sum₀ frame class i₀ g sum i = n - i
 
 ready-requires : tie.Need-ready-requires Inv-loop μ-loop
 ready-requires c κs = search needs
@@ -30,19 +30,23 @@ loop-holds : tie.Need-loop-holds Inv-loop μ-loop
 unfolding turns
 loop-holds c = (omega arith, refl)
 
-allowed-requires : tie.Need-allowed-requires Inv-loop μ-loop
-allowed-requires c κs = search needs
+allow-can-tx-requires : tie.Need-allow-can-tx-requires Inv-loop μ-loop
+allow-can-tx-requires c κs = search needs
+
+after-requires : tie.Need-after-requires Inv-loop μ-loop
+after-requires c κs = search needs
 
 add-i : tie.Need-add-i Inv-loop μ-loop
-add-i c = omega (arith, c .before .loop-test .taken, c .before .before .before .before .before .before .before .before .before .before .fits .n)
+add-i c = omega (arith, c .before .before .before .loop-test .taken, c .before .before .before .before .before .before .before .before .before .before .before .before .fits .n)
 
 loop-less : tie.Need-loop-less Inv-loop μ-loop
-loop-less c = omega (arith, c .before .loop-test .taken)
+loop-less c = omega (arith, c .before .before .before .loop-test .taken)
 
 loop-again : tie.Need-loop-again Inv-loop μ-loop
 loop-again c =
-    let l = c .before .before .loop in
-    (omega (arith, c .before .loop-test .taken), turn-more _ _ (l .i) (l .inv .1) (c .allowed .ensures))
+    let l = c .before .before .before .before .loop in
+    let o = c .before .before .allow-can-tx in
+    (omega (arith, c .before .before .before .loop-test .taken), turn-more _ _ (l .i) (l .inv .1) (run-after (l .sum) (l .i) (o .result) (c .before .after .ensures) (o .ensures)))
 
 returns : tie.Need-returns Inv-loop μ-loop
 returns c =
@@ -61,7 +65,8 @@ timed-allows-spec =
     frame-requires
     class-of-requires
     loop-holds
-    allowed-requires
+    allow-can-tx-requires
+    after-requires
     add-i
     loop-less
     loop-again

@@ -1,17 +1,17 @@
 use borrow.Author.Needs.{needs}
-use mathlib.Core.Path.{_≡_, refl, ap, _∙_}
+use mathlib.Core.Path.{_≡_, refl}
 use Prim.Native.Nat.{_≤_, _-_}
 use native.Mathlib.Omega.{arith}
-use Rattle.timed.specs.Rounds.{turns, restored}
-use Rattle.timed.proofs.Laws.{turn-more, sum-is}
+use Rattle.timed.specs.Rounds.{turns, first, restored}
+use Rattle.timed.proofs.Laws.{runOf, run-after, turn-more, sum-is}
 use Rattle.timed.proofs.timed_restores.Statement.{statement}
 use Rattle.timed.proofs.timed_restores.Tie as tie
 
 abbrev Inv-loop : tie.InvT-loop
-Inv-loop n car bytes method r₀ i₀ r i = (i ≤ n) × (r ≡ turns (restored bytes) r₀ i)
+Inv-loop n car bytes method g₀ sum₀ i₀ g sum i = (i ≤ n) × (runOf g sum ≡ turns (restored bytes) (first g₀) i)
 
 abbrev μ-loop : tie.MeasureT-loop
-μ-loop n car bytes method r₀ i₀ r i = n - i
+μ-loop n car bytes method g₀ sum₀ i₀ g sum i = n - i
 
 ready-requires : tie.Need-ready-requires Inv-loop μ-loop
 ready-requires c κs = search needs
@@ -20,19 +20,23 @@ loop-holds : tie.Need-loop-holds Inv-loop μ-loop
 unfolding turns
 loop-holds c = (omega arith, refl)
 
-restored-requires : tie.Need-restored-requires Inv-loop μ-loop
-restored-requires c κs = search needs
+restore-phone-validations-requires : tie.Need-restore-phone-validations-requires Inv-loop μ-loop
+restore-phone-validations-requires c κs = search needs
+
+after-requires : tie.Need-after-requires Inv-loop μ-loop
+after-requires c κs = search needs
 
 add-i : tie.Need-add-i Inv-loop μ-loop
-add-i c = omega (arith, c .before .loop-test .taken, c .before .before .before .before .before .before .before .fits .n)
+add-i c = omega (arith, c .before .before .before .loop-test .taken, c .before .before .before .before .before .before .before .before .before .fits .n)
 
 loop-less : tie.Need-loop-less Inv-loop μ-loop
-loop-less c = omega (arith, c .before .loop-test .taken)
+loop-less c = omega (arith, c .before .before .before .loop-test .taken)
 
 loop-again : tie.Need-loop-again Inv-loop μ-loop
 loop-again c =
-    let l = c .before .before .loop in
-    (omega (arith, c .before .loop-test .taken), turn-more _ _ (l .i) (l .inv .1) (c .restored .ensures))
+    let l = c .before .before .before .before .loop in
+    let o = c .before .before .restore-phone-validations in
+    (omega (arith, c .before .before .before .loop-test .taken), turn-more _ _ (l .i) (l .inv .1) (run-after (l .sum) (l .i) (o .result) (c .before .after .ensures) (o .ensures)))
 
 returns : tie.Need-returns Inv-loop μ-loop
 returns c =
@@ -47,7 +51,8 @@ timed-restores-spec =
     μ-loop
     ready-requires
     loop-holds
-    restored-requires
+    restore-phone-validations-requires
+    after-requires
     add-i
     loop-less
     loop-again

@@ -15,7 +15,7 @@ add-requires-2 : tie.Need-add-requires-2
 add-requires-2 c κs = search needs
 
 returns : tie.Need-returns
-returns c = rw (c .add2 .ensures, c .before .before .add .ensures, c .before .before .before .raised .ensures, c .before .before .before .before .told .ensures)
+returns c = rw (c .add2 .ensures, c .before .add .ensures, c .before .before .raised .ensures, c .before .before .before .told .ensures)
 
 pub after-spec : {M : Type 1} → statement M
 after-spec = tie.close (tie.spec told-requires raised-requires add-requires add-requires-2 returns)
