@@ -1,8 +1,8 @@
 // FIPS 180-4, 6.2.2: the hash value after one block.
 ghost use mathlib.Core.Path.{_≡_};
-ghost use Prim.Native.Nat.{_+_, _*_, _≤_};
-ghost use lib.ListN.{length};
-ghost use Rattle.sha256.specs.Sha256.{M, W, rounds, plus};
+ghost use Prim.Native.Nat.{_+_, _-_, _*_, _<_, _≤_};
+ghost use lib.ListN.{length, getD, set};
+ghost use Rattle.sha256.specs.Sha256.{_⊞_, σ₀, σ₁, M, W, round, rounds, plus};
 use crate::words::add;
 use crate::words::mixed;
 use crate::words::temp1;
@@ -77,53 +77,78 @@ const K: [u32; 64] = [
     0xc671_78f2,
 ];
 
-// Step 1: the schedule of block `i`.
-fn schedule(m: &[u8], i: usize) -> [u32; 64]
-    requires { ⌜ 64 * i + 64 ≤ length (now m) ⌝ }
-    ensures { λ r. ⌜ r ≡ W (M (now (m .entry)) i) 64 ⌝ }
+// Step 3: one round, with the constant `k` and the word `w` of the schedule.
+fn round(v: [u32; 8], k: u32, w: u32) -> [u32; 8]
+    ensures { λ r. ⌜ r ≡ round k w v ⌝ }
 {
-    let mut w = [0u32; 64];
-    let mut t = 0;
-    while t < 16 {
-        w[t] = word(m, 64 * i + 4 * t);
-        t += 1;
-    }
-    while t < 64 {
-        w[t] = mixed(w[t - 2], w[t - 7], w[t - 15], w[t - 16]);
-        t += 1;
-    }
-    w
+    let t1 = temp1(v[4], v[5], v[6], v[7], k, w);
+    let t2 = temp2(v[0], v[1], v[2]);
+    [
+        add(t1, t2),
+        v[0],
+        v[1],
+        v[2],
+        add(v[3], t1),
+        v[4],
+        v[5],
+        v[6],
+    ]
 }
 
-// Steps 2 and 3: the working variables after the 64 rounds. K is copied once; an index into the constant itself would
-// copy it in each round.
-fn working(s: [u32; 8], w: [u32; 64]) -> [u32; 8]
-    ensures { λ r. ⌜ r ≡ rounds w s 64 ⌝ }
+// Step 1 for word `t` of the schedule, one of the first 16, from block `i`, and the round with it.
+fn first(w: &mut [u32; 64], k: &[u32; 64], v: [u32; 8], m: &[u8], i: usize, t: usize) -> [u32; 8]
+    requires { ⌜ (64 * i + 64 ≤ length (now m)) × (t < 16) × (length (now w) ≡ 64) × (length (now k) ≡ 64) ⌝ }
+    ensures { λ r. ⌜ (now (w .exit) ≡ set (now (w .entry)) t (M (now (m .entry)) i t)) × (length (now (w .exit)) ≡ 64) × (r ≡ round (getD (now (k .entry)) t 0) (getD (now (w .exit)) t 0) v) ⌝ }
 {
-    let mut a = s[0];
-    let mut b = s[1];
-    let mut c = s[2];
-    let mut d = s[3];
-    let mut e = s[4];
-    let mut f = s[5];
-    let mut g = s[6];
-    let mut h = s[7];
+    w[t] = word(m, 64 * i + 4 * t);
+    round(v, k[t], w[t])
+}
+
+// Step 1 for word `t`, one of the rest, from those before it, and the round with it.
+fn later(w: &mut [u32; 64], k: &[u32; 64], v: [u32; 8], t: usize) -> [u32; 8]
+    requires { ⌜ (16 ≤ t) × (t < 64) × (length (now w) ≡ 64) × (length (now k) ≡ 64) ⌝ }
+    ensures { λ r. ⌜ (now (w .exit) ≡ set (now (w .entry)) t (σ₁ (getD (now (w .entry)) (t - 2) 0) ⊞ getD (now (w .entry)) (t - 7) 0 ⊞ σ₀ (getD (now (w .entry)) (t - 15) 0) ⊞ getD (now (w .entry)) (t - 16) 0)) × (length (now (w .exit)) ≡ 64) × (r ≡ round (getD (now (k .entry)) t 0) (getD (now (w .exit)) t 0) v) ⌝ }
+{
+    w[t] = mixed(w[t - 2], w[t - 7], w[t - 15], w[t - 16]);
+    round(v, k[t], w[t])
+}
+
+// Steps 1 to 3 for block `i`: the working variables after the 64 rounds. A word of the schedule is made just before its
+// round, and eight rounds are one turn of the loop: both are for speed. K is copied once; an index into the constant
+// itself would copy it in each round.
+fn working(s: [u32; 8], m: &[u8], i: usize) -> [u32; 8]
+    requires { ⌜ 64 * i + 64 ≤ length (now m) ⌝ }
+    ensures { λ r. ⌜ r ≡ rounds (W (M (now (m .entry)) i) 64) s 64 ⌝ }
+{
     let k = K;
+    let mut w = [0u32; 64];
+    let mut v = s;
     let mut t = 0;
-    while t < 64 {
-        let t1 = temp1(e, f, g, h, k[t], w[t]);
-        let t2 = temp2(a, b, c);
-        h = g;
-        g = f;
-        f = e;
-        e = add(d, t1);
-        d = c;
-        c = b;
-        b = a;
-        a = add(t1, t2);
-        t += 1;
+    while t < 16 {
+        let v1 = first(&mut w, &k, v, m, i, t);
+        let v2 = first(&mut w, &k, v1, m, i, t + 1);
+        let v3 = first(&mut w, &k, v2, m, i, t + 2);
+        let v4 = first(&mut w, &k, v3, m, i, t + 3);
+        let v5 = first(&mut w, &k, v4, m, i, t + 4);
+        let v6 = first(&mut w, &k, v5, m, i, t + 5);
+        let v7 = first(&mut w, &k, v6, m, i, t + 6);
+        let v8 = first(&mut w, &k, v7, m, i, t + 7);
+        v = v8;
+        t += 8;
     }
-    [a, b, c, d, e, f, g, h]
+    while t < 64 {
+        let v1 = later(&mut w, &k, v, t);
+        let v2 = later(&mut w, &k, v1, t + 1);
+        let v3 = later(&mut w, &k, v2, t + 2);
+        let v4 = later(&mut w, &k, v3, t + 3);
+        let v5 = later(&mut w, &k, v4, t + 4);
+        let v6 = later(&mut w, &k, v5, t + 5);
+        let v7 = later(&mut w, &k, v6, t + 6);
+        let v8 = later(&mut w, &k, v7, t + 7);
+        v = v8;
+        t += 8;
+    }
+    v
 }
 
 // Step 4.
@@ -144,6 +169,5 @@ pub fn compress(h: [u32; 8], m: &[u8], i: usize) -> [u32; 8]
     requires { ⌜ 64 * i + 64 ≤ length (now m) ⌝ }
     ensures { λ r. ⌜ r ≡ plus (rounds (W (M (now (m .entry)) i) 64) h 64) h ⌝ }
 {
-    let w = schedule(m, i);
-    plus(working(h, w), h)
+    plus(working(h, m, i), h)
 }

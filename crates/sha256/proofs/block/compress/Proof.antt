@@ -1,14 +1,11 @@
--- Schedule, rounds and sums, one after the other.
+-- Rounds and sums, one after the other.
 use mathlib.Core.List.{List}
 use mathlib.Core.Path.{ap, _∙_}
 use Prim.Native.Nat.{ℕ}
+use Rattle.sha256.specs.Sha256.{plus}
 use borrow.Author.Needs.{needs}
-use Rattle.sha256.specs.Sha256.{rounds, plus}
 use Rattle.sha256.proofs.block.compress.Statement.{statement}
 use Rattle.sha256.proofs.block.compress.Tie as tie
-
-schedule-requires : tie.Need-schedule-requires
-schedule-requires c κs = search needs
 
 working-requires : tie.Need-working-requires
 working-requires c κs = search needs
@@ -18,9 +15,8 @@ plus-requires c κs = search needs
 
 returns : tie.Need-returns
 returns c =
-    let h = c .before .before .before .before .args .h in
-    c .plus .ensures
-    ∙ ap (λ (v : List ℕ). plus v h) (c .before .working .ensures ∙ ap (λ (w : List ℕ). rounds w h 64) (c .before .before .schedule .ensures))
+    let h = c .before .before .before .args .h in
+    c .plus .ensures ∙ ap (λ (v : List ℕ). plus v h) (c .before .working .ensures)
 
 pub compress-spec : {M : Type 1} → statement M
-compress-spec = tie.close (tie.spec schedule-requires working-requires plus-requires returns)
+compress-spec = tie.close (tie.spec working-requires plus-requires returns)
