@@ -51,7 +51,7 @@ pub fn new_gate(settings: Settings, methods: [Method; 8], count: usize) -> Outco
 
 // ---- the session
 
-// `random`: lent random bytes; only a start that comes to its draw reads them.
+// `random`: lent random bytes; what is given depends on them only if the start comes to its draw.
 pub fn start_validation(g: Gate, phone: &[u8], method: &[u8], clock: u64, random: &[u8]) -> Outcome
     ensures { λ r. ⌜ given r ≡ step g (startValidation (now (phone .entry)) (now (method .entry)) clock (now (random .entry))) ⌝ }
 {
