@@ -7,7 +7,7 @@ use state::Answer;
 use state::Gate;
 ghost use mathlib.Core.Path.{_≡_};
 ghost use Rattle.answers.specs.Query.{plain};
-ghost use Rattle.gate.specs.Gate.{ask, asked, step};
+ghost use Rattle.definition.specs.Gate.{ask, asked, step};
 ghost use Rattle.items.specs.Bytes.{lentBytes};
 ghost use Rattle.lines.specs.Page.{page};
 ghost use Rattle.calls.specs.Calls.{plainQuery, longQuery};

@@ -2,8 +2,8 @@
 use mathlib.Core.List.{List}
 use Prim.Native.Nat.{ℕ}
 use Rattle.answers.specs.Query.{Query, isCanReadOnly, canReadOnlyReason, isCarIdentityConfirmed, isCarFingerprintConfirmed, canReadWriteApproval, hasCanDevWriteLock, isCanDevWriteUnlocked, canAccessState, platformId, isCanLogging, isCanFdBus, isCanBusReadOnly, isCanBusListenOnly, isPhonePaired, pairedPhoneCount, listPairedPhones, bleMaxBondedPhones, isPhoneValidated, carHasValidatedPhone, phoneTrustLevel, blePeer, encodePhoneValidations, phoneAccessState, validationMethods, sessionFor, currentValidationChallenge}
-use Rattle.gate.specs.Gate.{Call, newGateCall, startValidation, submitValidationCode, change, ask}
-use Rattle.gate.specs.Gate.{cancelValidation, completeValidationAction, tickValidation, addPairedPhone, removePairedPhone, clearPairedPhones, forgetPhoneValidation, prunePhoneValidations, setBlePeer, restorePhoneValidations, approveCanReadWrite, revokeCanReadWriteApproval, restoreCanReadWriteApproval, setCanDevWriteUnlocked, declareProductionBuild, confirmCarIdentity, revokeCarIdentity, confirmCarFingerprint, setCanReadOnly, openIdentityProbe, closeIdentityProbe, allowCanTx, heardCanFrame, notePlatformId, noteCanLogging, noteCanFdBus, noteMethodAvailable, noteMethodCanContinue}
+use Rattle.definition.specs.Gate.{Call, newGateCall, startValidation, submitValidationCode, change, ask}
+use Rattle.definition.specs.Gate.{cancelValidation, completeValidationAction, tickValidation, addPairedPhone, removePairedPhone, clearPairedPhones, forgetPhoneValidation, prunePhoneValidations, setBlePeer, restorePhoneValidations, approveCanReadWrite, revokeCanReadWriteApproval, restoreCanReadWriteApproval, setCanDevWriteUnlocked, declareProductionBuild, confirmCarIdentity, revokeCarIdentity, confirmCarFingerprint, setCanReadOnly, openIdentityProbe, closeIdentityProbe, allowCanTx, heardCanFrame, notePlatformId, noteCanLogging, noteCanFdBus, noteMethodAvailable, noteMethodCanContinue}
 use Rattle.call_names.specs.declared.SessionCall.{SessionCall}
 use Rattle.call_names.specs.declared.SessionCall.the-variants.{Start, Submit, Cancel, Complete, Tick}
 use Rattle.call_names.specs.declared.PhoneCall.{PhoneCall}

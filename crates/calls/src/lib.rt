@@ -9,7 +9,7 @@ use items::Items;
 use state::Gate;
 use state::Outcome;
 ghost use mathlib.Core.Path.{_≡_};
-ghost use Rattle.gate.specs.Gate.{given, step};
+ghost use Rattle.definition.specs.Gate.{given, step};
 ghost use Rattle.items.specs.Bytes.{lentBytes};
 ghost use Rattle.calls.specs.Calls.{newCall, sessionCall, phoneCall, accessCall, probeCall, noteCall};
 

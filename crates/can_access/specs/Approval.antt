@@ -1,4 +1,4 @@
--- The calls on the approval and the dev lock (can_access.rs). Each raises the read-only state as it is afterwards.
+-- The calls on the approval (can_access.rs). Each raises the read-only state as it is afterwards.
 use mathlib.Core.Bool.{Bool, true, cond, not, _&&_}
 use mathlib.Core.List.{List}
 use Prim.Native.Nat.{ℕ}
@@ -10,7 +10,7 @@ use Rattle.state.specs.declared.Car.{Car}
 use Rattle.state.specs.declared.Policy.{Policy}
 use Rattle.state.specs.declared.Validations.{Validations}
 use Rattle.state.specs.declared.Core.{Core}
-use Rattle.state.specs.declared.Answer.the-variants.{Done, CarNotIdentified, NoDevLock}
+use Rattle.state.specs.declared.Answer.the-variants.{Done, CarNotIdentified}
 use Rattle.state.specs.declared.Said.{Said}
 use Rattle.state.specs.Parts.{withPolicy, withValidations}
 use Rattle.state.specs.Replies.{noCar, approvalChanged, approvalCleared, leave, reply}
@@ -49,17 +49,3 @@ knownOrNone car = cond (car .known) car noCar
 -- restore_can_read_write_approval: a digest, or none
 unfoldable pub restoreApproval : Core → Car → Said
 restoreApproval c car = changed c Done (withAccess (c .policy) (accessOf (c .policy .access) (knownOrNone car)))
-
--- ---- dev lock
-
--- set_can_dev_write_unlocked
-unfoldable pub setDevUnlocked : Core → Bool → Said
-setDevUnlocked c unlocked =
-    cond (c .policy .access .production)
-    (leave c NoDevLock)
-    (changed c Done (withAccess (c .policy) (record { approval = c .policy .access .approval; unlocked = unlocked; production = c .policy .access .production })))
-
--- declare_production_build
-unfoldable pub declareProduction : Core → Said
-declareProduction c =
-    changed c Done (withAccess (c .policy) (record { approval = c .policy .access .approval; unlocked = c .policy .access .unlocked; production = true }))

@@ -1,4 +1,4 @@
-// The calls on the approval and the dev lock, on a core in range (can_access.rs).
+// The calls on the approval, on a core in range (can_access.rs).
 use state::Answer;
 use state::Car;
 use state::Core;
@@ -6,7 +6,7 @@ use state::Policy;
 use state::Said;
 use state::Validations;
 ghost use mathlib.Core.Path.{_≡_};
-ghost use Rattle.can_access.specs.Approval.{approvedAs, declareProduction, ofOtherCar, restoreApproval, revokeApproval, setDevUnlocked};
+ghost use Rattle.can_access.specs.Approval.{approvedAs, ofOtherCar, restoreApproval, revokeApproval};
 ghost use Rattle.can_access.specs.Approval as Approval;
 
 // There are validations, and they are of another car.
@@ -84,29 +84,6 @@ pub fn restore_can_read_write_approval(core: Core, approval: Car) -> Said
     let kept = known_or_none(approval);
     let mut access = policy.access;
     access.approval = kept;
-    let p = policy_changes::with_access(policy, access);
-    policy_changes::changed(core, Answer::Done, p)
-}
-
-pub fn set_can_dev_write_unlocked(core: Core, unlocked: bool) -> Said
-    ensures { λ r. ⌜ r ≡ setDevUnlocked core unlocked ⌝ }
-{
-    let policy = core.policy;
-    let mut access = policy.access;
-    if access.production {
-        return state::replies::leave(core, Answer::NoDevLock);
-    }
-    access.unlocked = unlocked;
-    let p = policy_changes::with_access(policy, access);
-    policy_changes::changed(core, Answer::Done, p)
-}
-
-pub fn declare_production_build(core: Core) -> Said
-    ensures { λ r. ⌜ r ≡ declareProduction core ⌝ }
-{
-    let policy = core.policy;
-    let mut access = policy.access;
-    access.production = true;
     let p = policy_changes::with_access(policy, access);
     policy_changes::changed(core, Answer::Done, p)
 }

@@ -1,5 +1,5 @@
 // The access gate: one function for each call that changes it; the queries are in `queries`. State by value in; answer,
-// signals and state by value out. Each promise is an equation with `step` of specs/Gate.antt, for every gate that is lent.
+// signals and state by value out. Each promise is an equation with `step` of definition/specs/Gate.antt, for every gate that is lent.
 use frames::CanFrame;
 use frames::ProbeFrame;
 use frames::TxClass;
@@ -14,8 +14,8 @@ ghost use mathlib.Core.Path.{_≡_};
 ghost use Rattle.state.specs.declared.Answer.the-variants.{BadSettings};
 ghost use Rattle.state.specs.Replies.{noCode, leave, fill};
 ghost use Rattle.range.specs.Range as Range;
-ghost use Rattle.gate.specs.Gate.{NewFrom, startValidation, submitValidationCode, change, given, step};
-ghost use Rattle.gate.specs.Gate.{cancelValidation, completeValidationAction, tickValidation, addPairedPhone, removePairedPhone, clearPairedPhones, forgetPhoneValidation, prunePhoneValidations, setBlePeer, restorePhoneValidations, approveCanReadWrite, revokeCanReadWriteApproval, restoreCanReadWriteApproval, setCanDevWriteUnlocked, declareProductionBuild, confirmCarIdentity, revokeCarIdentity, confirmCarFingerprint, setCanReadOnly, openIdentityProbe, closeIdentityProbe, allowCanTx, heardCanFrame, notePlatformId, noteCanLogging, noteCanFdBus, noteMethodAvailable, noteMethodCanContinue};
+ghost use Rattle.definition.specs.Gate.{NewFrom, startValidation, submitValidationCode, change, given, step};
+ghost use Rattle.definition.specs.Gate.{cancelValidation, completeValidationAction, tickValidation, addPairedPhone, removePairedPhone, clearPairedPhones, forgetPhoneValidation, prunePhoneValidations, setBlePeer, restorePhoneValidations, approveCanReadWrite, revokeCanReadWriteApproval, restoreCanReadWriteApproval, setCanDevWriteUnlocked, declareProductionBuild, confirmCarIdentity, revokeCarIdentity, confirmCarFingerprint, setCanReadOnly, openIdentityProbe, closeIdentityProbe, allowCanTx, heardCanFrame, notePlatformId, noteCanLogging, noteCanFdBus, noteMethodAvailable, noteMethodCanContinue};
 
 // 25: a gate out of range stays as it is.
 fn unserved(g: Gate) -> Outcome
@@ -194,7 +194,7 @@ pub fn set_can_dev_write_unlocked(g: Gate, unlocked: bool) -> Outcome
     ensures { λ r. ⌜ given r ≡ step g (change (setCanDevWriteUnlocked unlocked)) ⌝ }
 {
     let core = g.core;
-    let said = can_access::set_can_dev_write_unlocked(core, unlocked);
+    let said = dev_lock::set_can_dev_write_unlocked(core, unlocked);
     answered(g, said)
 }
 
@@ -202,7 +202,7 @@ pub fn declare_production_build(g: Gate) -> Outcome
     ensures { λ r. ⌜ given r ≡ step g (change declareProductionBuild) ⌝ }
 {
     let core = g.core;
-    let said = can_access::declare_production_build(core);
+    let said = dev_lock::declare_production_build(core);
     answered(g, said)
 }
 

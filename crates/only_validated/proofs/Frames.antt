@@ -28,7 +28,7 @@ use Rattle.probe_window.specs.declared.Unsent.the-variants.{At, Nothing}
 use Rattle.probe_window.specs.Window.{isOpen, unsentIn}
 use Rattle.can_tx.specs.Tx.{passed, throughWindow, allowPlatform, allowsCommand, allow}
 use Rattle.answers.specs.Query.{plain}
-use Rattle.gate.specs.Gate.{changed, step}
+use Rattle.definition.specs.Gate.{changed, step}
 use Rattle.only_validated.specs.Row.{listed, carNow, Allowed, Sound, MayCommand, MaySend, readWrite, inWindow}
 use Rattle.only_validated.proofs.Stores.{untrue}
 

@@ -34,6 +34,7 @@ use Rattle.state.specs.Replies.{leave, reply, finish, fill}
 use Rattle.range.specs.Range.{inRange, served, settingsFit, methodsFit}
 use Rattle.policy.specs.Policy.{isIdentified}
 use Rattle.can_access.specs.Approval as Access
+use Rattle.dev_lock.specs.DevLock as DevLock
 use Rattle.policy_changes.specs.Changes as Changes
 use Rattle.car_identity.specs.CarIdentity as CarIdentity
 use Rattle.can.specs.Can as Can
@@ -51,8 +52,8 @@ use Rattle.validation.specs.Calls as Validation
 use Rattle.methods.specs.Notes as Methods
 use Rattle.validation.specs.Calls.{Check}
 use Rattle.new_gate.specs.New.{newMethods, newCore, leastSettings, madeGate, newGate}
-use Rattle.gate.specs.Gate.{Change, Call, isLent, changed, step}
-use Rattle.gate.specs.Gate as Gate
+use Rattle.definition.specs.Gate.{Change, Call, isLent, changed, step}
+use Rattle.definition.specs.Gate as Gate
 use Rattle.only_validated.specs.Row.{listed, Listed, NotListed, session, Validates, byCode, byAction, byRecord, after}
 use Rattle.only_validated.proofs.Stores.{untrue, unlisted, Less, less-same, none-listed, less-none, less-kept, validate-is, restored-is}
 
@@ -276,7 +277,7 @@ module _ (g : Gate) where
   keep k h = kept _ (g .core) _ h
 
   gain-changed : (k : Change) → Gains (By g (Gate.change k)) (g .core) (changed (g .core) k)
-  unfolding changed Validation.cancel Validation.tick Methods.noteAvailable Methods.noteContinue Pairing.pair Pairing.clear Store.forget Pairing.setPeer Trust.told Store.stored Access.approve Access.approvedAs Access.revokeApproval Access.restoreApproval Access.setDevUnlocked Access.declareProduction CarIdentity.confirmPlatform CarIdentity.revokePlatform CarIdentity.confirmFingerprint CarIdentity.notePlatform Can.noteLogging Can.noteFdBus Changes.changed Probe.openProbe Probe.closeProbe Probe.windowChanged Tx.allow Probe.heard
+  unfolding changed Validation.cancel Validation.tick Methods.noteAvailable Methods.noteContinue Pairing.pair Pairing.clear Store.forget Pairing.setPeer Trust.told Store.stored Access.approve Access.approvedAs Access.revokeApproval Access.restoreApproval DevLock.setDevUnlocked DevLock.declareProduction CarIdentity.confirmPlatform CarIdentity.revokePlatform CarIdentity.confirmFingerprint CarIdentity.notePlatform Can.noteLogging Can.noteFdBus Changes.changed Probe.openProbe Probe.closeProbe Probe.windowChanged Tx.allow Probe.heard
   gain-changed (Gate.cancelValidation phone clock) = keep _ (search (keeping, keep-end))
   gain-changed (Gate.completeValidationAction number clock) = gain-complete g number clock
   gain-changed (Gate.tickValidation clock) = gain-ticking _ (g .core) clock _ _ (λ t. kept _ (g .core) _ (search keeping))

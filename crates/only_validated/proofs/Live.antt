@@ -27,6 +27,7 @@ use Rattle.range.specs.Range as Range
 use Rattle.state.specs.Replies as Replies
 use Rattle.policy.specs.Policy as Policy
 use Rattle.can_access.specs.Approval as Access
+use Rattle.dev_lock.specs.DevLock as DevLock
 use Rattle.policy_changes.specs.Changes as Changes
 use Rattle.car_identity.specs.CarIdentity as CarIdentity
 use Rattle.can.specs.Can as Can
@@ -34,14 +35,15 @@ use Rattle.phone_trust.specs.Trust as Trust
 use Rattle.validations.specs.Store as Store
 use Rattle.pairing.specs.Pairing as Pairing
 use Rattle.can_tx.specs.Tx as Tx
+use Rattle.session_times.specs.Times as Times
 use Rattle.session.specs.Session as Session
 use Rattle.validation.specs.Calls as Validation
 use Rattle.answers.specs.Answers as Answers
 use Rattle.answers.specs.Query as Query
 use Rattle.answers.specs.Query.{Reply, plain}
 use Rattle.new_gate.specs.New as New
-use Rattle.gate.specs.Gate as Gate
-use Rattle.gate.specs.Gate.{Call, startValidation, submitValidationCode, change, ask, step}
+use Rattle.definition.specs.Gate as Gate
+use Rattle.definition.specs.Gate.{Call, startValidation, submitValidationCode, change, ask, step}
 use Rattle.only_validated.specs.Row.{carNow, afterAll, WasValidated}
 use Rattle.only_validated.proofs.Proved.{only-validated}
 
@@ -126,7 +128,7 @@ pub record Examples : Type 0 where
   pub otherBus : readOnly (ready ++ codeTyped ++ onBike (4 ∷ [])) ≡ plain No
 
 pub examples : Examples
-unfolding padded sameBytes allInRange appended contains idBytes idInRange idOf kept listInRange listOf phonesOf removeAll someOf tooLong K padLast W rounds hashFrom sha256 domain carMessage carDigest digits drawLimit drawn firstBelow group decode encode encodeAll Utf8.within isText right trim trimFront trimmed white anyLong before decoded decodedBody encoded field fields judged overLimits readCounted readPhones restored Range.within Range.settingsFit Range.allOf Range.printable Range.methodFits Range.allFit Range.methodsFit Running.methodAt Running.inProgress Running.codeInProgress Range.triesFit Range.sessionFits Range.windowFits Range.phonesFit Range.inRange Range.served Replies.leave Replies.reply Replies.finish Replies.fill Policy.fingerprintConfirmed Policy.isIdentified Policy.approvedCar Policy.allowsReadWrite Policy.isReadOnly Policy.isFdBus Policy.isBusReadOnly Changes.changed Access.ofOtherCar Access.approvedAs Access.approve Access.declareProduction CarIdentity.confirmPlatform CarIdentity.confirmFingerprint Can.lockAsked Can.setReadOnly Trust.isPaired Trust.ofThisCar Trust.isValidated Store.storeOf Store.stored Store.forgetting Store.forget Store.restore Trust.told Pairing.pair Store.isFull Store.validate Tx.allowsCommand Tx.allow Session.saturatingAdd Session.endedAs Session.isOf Session.lostReadWrite Session.noteAt Session.cannotGoOn Session.lapseOf Session.placeFrom Session.placeOf Session.nextNumber Validation.checked Validation.endSession Validation.runsFor Validation.startChecks Validation.newSession Validation.begin Validation.startAt Validation.start Validation.succeededCore Validation.succeed Validation.fullFor Validation.rightCode Validation.judge Validation.submitted Validation.submit Validation.isAction Validation.completed Validation.complete Query.answerTo Answers.told New.newMethods New.newCore New.newGate Gate.changed step
+unfolding padded sameBytes allInRange appended contains idBytes idInRange idOf kept listInRange listOf phonesOf removeAll someOf tooLong K padLast W rounds hashFrom sha256 domain carMessage carDigest digits drawLimit drawn firstBelow group decode encode encodeAll Utf8.within isText right trim trimFront trimmed white anyLong before decoded decodedBody encoded field fields judged overLimits readCounted readPhones restored Range.within Range.settingsFit Range.allOf Range.printable Range.methodFits Range.allFit Range.methodsFit Running.methodAt Running.inProgress Running.codeInProgress Range.triesFit Range.sessionFits Range.windowFits Range.phonesFit Range.inRange Range.served Replies.leave Replies.reply Replies.finish Replies.fill Policy.fingerprintConfirmed Policy.isIdentified Policy.approvedCar Policy.allowsReadWrite Policy.isReadOnly Policy.isFdBus Policy.isBusReadOnly Changes.changed Access.ofOtherCar Access.approvedAs Access.approve DevLock.declareProduction CarIdentity.confirmPlatform CarIdentity.confirmFingerprint Can.lockAsked Can.setReadOnly Trust.isPaired Trust.ofThisCar Trust.isValidated Store.storeOf Store.stored Store.forgetting Store.forget Store.restore Trust.told Pairing.pair Store.isFull Store.validate Tx.allowsCommand Tx.allow Times.saturatingAdd Session.endedAs Session.isOf Session.lostReadWrite Session.noteAt Session.cannotGoOn Session.lapseOf Session.placeFrom Session.placeOf Times.nextNumber Validation.checked Validation.endSession Validation.runsFor Validation.startChecks Validation.newSession Validation.begin Validation.startAt Validation.start Validation.succeededCore Validation.succeed Validation.fullFor Validation.rightCode Validation.judge Validation.submitted Validation.submit Validation.isAction Validation.completed Validation.complete Query.answerTo Answers.told New.newMethods New.newCore New.newGate Gate.changed step
 examples = record {
   byCode = refl;
   byAction = refl;

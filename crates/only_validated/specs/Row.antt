@@ -29,7 +29,7 @@ use Rattle.probe_window.specs.declared.Unsent.the-variants.{At}
 use Rattle.probe_window.specs.Window.{isOpen, unsentIn}
 use Rattle.answers.specs.Query.{plain}
 use Rattle.new_gate.specs.New.{newGate}
-use Rattle.gate.specs.Gate.{Call, change, submitValidationCode, completeValidationAction, restorePhoneValidations, allowCanTx, step}
+use Rattle.definition.specs.Gate.{Call, change, submitValidationCode, completeValidationAction, restorePhoneValidations, allowCanTx, step}
 
 -- ---- who is listed
 

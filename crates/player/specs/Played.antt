@@ -9,7 +9,7 @@ use Rattle.ascii.specs.Ascii.{ascii}
 use Rattle.call_names.specs.Names.{named, words}
 use Rattle.call_names.specs.declared.Name.{Name}
 use Rattle.call_names.specs.declared.Name.the-variants.{New, Session, Phone, Access, Probe, Note, Plain, Long, SetCounters, State, Unknown}
-use Rattle.gate.specs.Gate.{Call, newGateCall, step}
+use Rattle.definition.specs.Gate.{Call, newGateCall, step}
 use Rattle.items.specs.Bytes.{bytesOf}
 use Rattle.items.specs.Items.{readOf}
 use Rattle.items.specs.Takes.{takes}

@@ -19,7 +19,7 @@ ghost use Rattle.policy_changes.specs.Changes.{yesNo};
 ghost use Rattle.answers.specs.Answers as Answers;
 ghost use Rattle.answers.specs.Query.{plain, approval, access, phones, trust, peer, phoneAccess, methods, challenge, saved};
 ghost use Rattle.answers.specs.Query.{isCanReadOnly, canReadOnlyReason, isCarIdentityConfirmed, isCarFingerprintConfirmed, canReadWriteApproval, hasCanDevWriteLock, isCanDevWriteUnlocked, canAccessState, platformId, isCanLogging, isCanFdBus, isCanBusReadOnly, isCanBusListenOnly, isPhonePaired, pairedPhoneCount, listPairedPhones, bleMaxBondedPhones, isPhoneValidated, carHasValidatedPhone, phoneTrustLevel, blePeer, encodePhoneValidations, phoneAccessState, validationMethods, sessionFor, currentValidationChallenge};
-ghost use Rattle.gate.specs.Gate.{ask, asked, step};
+ghost use Rattle.definition.specs.Gate.{ask, asked, step};
 
 // Yes or no, or 25.
 fn told(core: Core, b: bool) -> Answer

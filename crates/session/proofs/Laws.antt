@@ -1,12 +1,11 @@
--- The arithmetic of times, and the steps of the loop that looks for a method.
+-- A try that is not there, and the steps of the loop that looks for a method.
 use mathlib.Core.Path.{_≡_, ap, _∙_}
 use mathlib.Core.Bool.{Bool, true, false, cond}
 use mathlib.Core.List.{List, [], _∷_}
-use Prim.Native.Nat.{ℕ, zero, suc, _+_, _-_, _/_, _%_, _^_, _≤_, _<_, min}
+use Prim.Native.Nat.{ℕ, zero, suc, _+_, _-_, _≤_, _<_, min}
 use native.Mathlib.Nat.{zero-min, min-zero, suc-min-suc}
 use native.Mathlib.Numerals.{add-one}
 use native.Mathlib.Omega.{arith}
-use borrow.Author.Tests.{lt-ltb, le-ltb}
 use lib.ListN.{length, take, drop, getD, length-take, drop-of-length-le}
 use lib.Seq.{drop-cons, getD-take}
 use Rattle.arrays.specs.Arrays.{sameBytes}
@@ -15,22 +14,7 @@ use Rattle.state.specs.declared.Method.{Method}
 use Rattle.state.specs.declared.Methods.{Methods}
 use Rattle.state.specs.declared.Session.{Session}
 use Rattle.state.specs.Running.{pastMethods}
-use Rattle.session.specs.Session.{saturatingAdd, secondsTo, triedOnce, placeFrom, placeOf}
-
--- ---- times
-
-module _ (clock span : ℕ) where
-  pub sum-fits : (r : ℕ) → clock + span < 2 ^ 64 → r ≡ clock + span → r ≡ saturatingAdd clock span
-  unfolding saturatingAdd
-  sum-fits r h e = rw (lt-ltb _ _ h) e
-
-  pub sum-past : (r : ℕ) → 2 ^ 64 ≤ clock + span → r ≡ 2 ^ 64 - 1 → r ≡ saturatingAdd clock span
-  unfolding saturatingAdd
-  sum-past r h e = rw (le-ltb _ _ h) e
-
-pub seconds-are : (until clock whole : ℕ) → whole ≡ (until - clock + 999) / 1_000 → whole % 2 ^ 32 ≡ secondsTo until clock
-unfolding secondsTo
-seconds-are until clock whole e = rw e
+use Rattle.session.specs.Session.{triedOnce, placeFrom, placeOf}
 
 -- no try is left: none is taken
 pub tried-none : (s : Session) → s .tries ≤ 0 → s ≡ triedOnce s

@@ -1,10 +1,11 @@
--- Times, what a session shows, and its ends (validation.rs).
+-- What a session shows, and its ends (validation.rs).
 use mathlib.Core.Bool.{Bool, true, false, cond, not, _&&_, _||_}
 use mathlib.Core.List.{List, [], _∷_}
-use Prim.Native.Nat.{ℕ, zero, suc, _+_, _-_, _/_, _%_, _^_}
-use lib.Dec.{eqb, ltb, leb}
+use Prim.Native.Nat.{ℕ, zero, suc, _-_}
+use lib.Dec.{ltb}
 use lib.ListN.{getD, take}
 use Rattle.arrays.specs.Arrays.{sameBytes}
+use Rattle.session_times.specs.Times.{secondsTo}
 use Rattle.phones.specs.Phones.{idBytes}
 use Rattle.state.specs.declared.Kind.{Kind}
 use Rattle.state.specs.declared.Status.{Status}
@@ -18,16 +19,6 @@ use Rattle.state.specs.Running.{isCode, isRunning, methodAt, inProgress}
 use Rattle.policy.specs.Policy.{isReadOnly, isIdentified}
 use Rattle.session.specs.declared.Lapse.{Lapse}
 use Rattle.session.specs.declared.Lapse.the-variants.{Stays, Ends}
-
--- ---- times
-
--- a clock plus a span, at most 2^64 - 1
-unfoldable pub saturatingAdd : ℕ → ℕ → ℕ
-saturatingAdd clock span = cond (ltb (clock + span) (2 ^ 64)) (clock + span) (2 ^ 64 - 1)
-
--- seconds left: rounded up, 0 if passed, modulo 2^32
-unfoldable pub secondsTo : ℕ → ℕ → ℕ
-secondsTo until clock = (until - clock + 999) / 1_000 % 2 ^ 32
 
 -- ---- what a session shows
 
@@ -115,7 +106,3 @@ placeFrom id i (m ∷ ms) = cond (sameBytes (idBytes (m .id)) id) i (placeFrom i
 
 unfoldable pub placeOf : Methods → List ℕ → ℕ
 placeOf m id = placeFrom id 0 (take (m .count) (m .list))
-
--- after 4,294,967,295 the next session number is 1
-unfoldable pub nextNumber : ℕ → ℕ
-nextNumber n = cond (eqb ((n + 1) % 2 ^ 32) 0) 1 ((n + 1) % 2 ^ 32)

@@ -1,4 +1,4 @@
-// Times, what a session shows, and its ends (validation.rs).
+// What a session shows, and its ends (validation.rs).
 use state::Core;
 use state::Method;
 use state::Methods;
@@ -10,34 +10,12 @@ ghost use mathlib.Core.Bool.{cond};
 ghost use Prim.Native.Nat.{min};
 ghost use Rattle.state.specs.declared.Status.the-variants.{Cancelled, TimedOut};
 ghost use Rattle.session.specs.declared.Lapse.the-variants.{Stays, Ends};
-ghost use Rattle.session.specs.Session.{saturatingAdd, secondsTo, secondsOf, replyOf, endedAs, triedOnce, isOf, lostReadWrite, noteAt, cannotGoOn, lapseOf, placeOf, nextNumber};
+ghost use Rattle.session.specs.Session.{secondsOf, replyOf, endedAs, triedOnce, isOf, lostReadWrite, noteAt, cannotGoOn, lapseOf, placeOf};
 
 // What a tick does to the session.
 pub enum Lapse {
     Stays,
     Ends(Status),
-}
-
-pub fn saturating_add(clock: u64, span: u64) -> u64
-    ensures { λ r. ⌜ r ≡ saturatingAdd clock span ⌝ }
-{
-    let sum = std::num::wrapping_add_u64(clock, span);
-    if sum < clock {
-        return u64::MAX;
-    }
-    sum
-}
-
-// Rounded up, 0 if passed, modulo 2^32.
-pub fn seconds_to(until: u64, clock: u64) -> u32
-    ensures { λ r. ⌜ r ≡ secondsTo until clock ⌝ }
-{
-    if until <= clock {
-        return 0;
-    }
-    let left = until - clock;
-    let whole = (left - 1) / 1_000 + 1;
-    (whole % 0x1_0000_0000) as u32
 }
 
 // What is told of a running session only.
@@ -46,7 +24,7 @@ fn seconds_of(s: Session, clock: u64) -> u32
 {
     let status = s.status;
     if state::running::is_running(status) {
-        return seconds_to(s.deadline, clock);
+        return session_times::seconds_to(s.deadline, clock);
     }
     0
 }
@@ -61,7 +39,7 @@ pub fn reply_of(core: Core, s: Session, clock: u64) -> SessionReply
     let kind = method.kind;
     let status = s.status;
     let seconds = seconds_of(s, clock);
-    let cooldown = seconds_to(core.validation.cooldown, clock);
+    let cooldown = session_times::seconds_to(core.validation.cooldown, clock);
     if state::running::is_code(kind) {
         return SessionReply {
             method: at,
@@ -209,12 +187,4 @@ pub fn place_of(m: Methods, id: &[u8]) -> usize
         i += 1;
     }
     n
-}
-
-// The wrapping sum, zero skipped.
-pub fn next_number(n: u32) -> u32
-    ensures { λ r. ⌜ r ≡ nextNumber n ⌝ }
-{
-    let next = std::num::wrapping_add_u32(n, 1);
-    if next == 0 { 1 } else { next }
 }

@@ -31,7 +31,7 @@ fn new_session(core: Core, phone: &[u8], at: usize, clock: u64) -> Session
     let made = phones::make_id(phone);
     let id = made.id;
     let car = core.policy.identity.car.digest;
-    let deadline = session::saturating_add(clock, core.settings.session);
+    let deadline = session_times::saturating_add(clock, core.settings.session);
     Session {
         present: true,
         number: core.validation.next,
@@ -71,7 +71,7 @@ fn begin(core: Core, phone: &[u8], at: usize, clock: u64, mark: Mark) -> Said
     let challenge = challenge_for(core, at, kind);
     let signals = state::replies::challenge_changed(challenge);
     let mut v = core.validation;
-    let next = session::next_number(v.next);
+    let next = session_times::next_number(v.next);
     v.next = next;
     v.session = s;
     let c = state::parts::with_validation(core, v);
@@ -126,7 +126,7 @@ fn way_at(core: Core, phone: &[u8], at: usize, clock: u64, lent: bool, gives: bo
     if policy::is_car_fingerprint_confirmed(identity) {
         let until = core.validation.cooldown;
         if clock < until {
-            let left = session::seconds_to(until, clock);
+            let left = session_times::seconds_to(until, clock);
             return Way::Refused(Answer::CoolingDown(left));
         }
         let s = core.validation.session;

@@ -17,7 +17,7 @@ fn failed_core(core: Core, clock: u64) -> Core
     let s = v.session;
     let t = session::tried_once(s);
     let e = session::ended_as(t, Status::Failed, clock);
-    let until = session::saturating_add(clock, core.settings.cooldown);
+    let until = session_times::saturating_add(clock, core.settings.cooldown);
     v.session = e;
     v.cooldown = until;
     state::parts::with_validation(core, v)

@@ -4,7 +4,7 @@ use Prim.Native.Nat.{ℕ, _+_}
 use native.Mathlib.Numerals.{add-one}
 use Rattle.state.specs.declared.Gate.{Gate}
 use Rattle.state.specs.declared.Outcome.{Outcome}
-use Rattle.gate.specs.Gate.{Given, given}
+use Rattle.definition.specs.Gate.{Given, given}
 use Rattle.timed.specs.declared.held.Run.{Run}
 use Rattle.timed.specs.Rounds.{after, turns, first, sumOf}
 

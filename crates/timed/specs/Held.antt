@@ -18,7 +18,7 @@ use Rattle.state.specs.declared.Settings.{Settings}
 use Rattle.state.specs.declared.Gate.{Gate}
 use Rattle.state.specs.Parts.{withPolicy, withPaired}
 use Rattle.new_gate.specs.New.{newGate}
-use Rattle.gate.specs.Gate.{step, change, restorePhoneValidations}
+use Rattle.definition.specs.Gate.{step, change, restorePhoneValidations}
 
 abbrev pub classOf : Bool → TxClass
 classOf command = cond command Command Platform

@@ -6,7 +6,7 @@ use Rattle.frames.specs.declared.TxClass.{TxClass}
 use Rattle.state.specs.declared.Gate.{Gate}
 use Rattle.state.specs.declared.Outcome.{Outcome}
 use Rattle.answers.specs.Query.{Reply, plain, approval, access, phones, trust, peer, phoneAccess, methods, challenge, saved, encodePhoneValidations}
-use Rattle.gate.specs.Gate.{Given, given, step, startValidation, submitValidationCode, change, ask, allowCanTx, restorePhoneValidations}
+use Rattle.definition.specs.Gate.{Given, given, step, startValidation, submitValidationCode, change, ask, allowCanTx, restorePhoneValidations}
 use Rattle.timed.specs.declared.held.Run.{Run}
 use Rattle.timed.specs.Seen.{add, recordByte, raised, told}
 use Rattle.timed.specs.Held.{ready}

@@ -6,7 +6,7 @@ use state::Outcome;
 use state::SessionReply;
 use state::Signals;
 ghost use mathlib.Core.Path.{_≡_};
-ghost use Rattle.gate.specs.Gate.{given};
+ghost use Rattle.definition.specs.Gate.{given};
 ghost use Rattle.timed.specs.Seen as Seen;
 ghost use Rattle.timed.specs.Seen.{recordByte};
 ghost use Rattle.timed.specs.Rounds as Rounds;

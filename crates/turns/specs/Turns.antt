@@ -2,7 +2,7 @@
 use mathlib.Core.Bool.{Bool, true, false}
 use mathlib.Core.List.{List}
 use Prim.Native.Nat.{ℕ}
-use Rattle.gate.specs.Gate.{Given, given, step}
+use Rattle.definition.specs.Gate.{Given, given, step}
 use Rattle.lines.specs.Page.{Page, page, _▸_}
 use Rattle.signal_lines.specs.Signals.{signals}
 use Rattle.state_lines.specs.Whole as Whole

@@ -7,7 +7,7 @@ use state::Answer;
 use state::Gate;
 use state::Outcome;
 ghost use mathlib.Core.Path.{_≡_};
-ghost use Rattle.gate.specs.Gate.{given};
+ghost use Rattle.definition.specs.Gate.{given};
 ghost use Rattle.items.specs.Bytes.{lentBytes};
 ghost use Rattle.lines.specs.Page.{page};
 ghost use Rattle.calls.specs.Calls.{lineOf};

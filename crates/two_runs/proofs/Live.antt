@@ -29,13 +29,14 @@ use Rattle.state.specs.Replies as Replies
 use Rattle.policy.specs.Policy as Policy
 use Rattle.validations.specs.Store as Store
 use Rattle.phone_trust.specs.Trust as Trust
+use Rattle.session_times.specs.Times as Times
 use Rattle.session.specs.Session as Session
 use Rattle.validation.specs.Calls as Validation
 use Rattle.answers.specs.declared.ChallengeAnswer.{ChallengeAnswer}
 use Rattle.answers.specs.Query as Query
 use Rattle.answers.specs.Query.{Reply, plain}
 use Rattle.new_gate.specs.New as New
-use Rattle.gate.specs.Gate.{Call, newGateCall, startValidation, submitValidationCode, change, ask, Given, step}
+use Rattle.definition.specs.Gate.{Call, newGateCall, startValidation, submitValidationCode, change, ask, Given, step}
 use Rattle.two_runs.specs.Demand.{blanked, hideGate, hideChallenge, hideSignals, hideReply, seen, after, run, codeRuns, Alike, starts, submits, news, changes, asks, TwoRuns, end, next, judgedWrong, begins, Tally, sessions, AlikeGates}
 use Rattle.two_runs.proofs.Digits.{same-length, same-past}
 
@@ -139,7 +140,7 @@ pub record Examples : Type 0 where
   pub tallied : sessions 3 0 ready three ≡ tallies
 
 pub examples : Examples
-unfolding padded put sameBytes allInRange contains idBytes idInRange idOf listInRange listOf phonesOf someOf kept appended madeId tooLong digits drawLimit drawn firstBelow group decode encode encodeAll Utf8.within isText right trim trimFront trimmed white encoded field fields recordOf Range.within Range.settingsFit Range.allOf Range.printable Range.methodFits Range.allFit Range.methodsFit Running.methodAt Running.inProgress Running.codeInProgress Range.triesFit Range.sessionFits Range.windowFits Range.phonesFit Range.inRange Replies.challengeChanged Replies.validated Replies.leave Replies.reply Replies.finish Range.served Replies.fill Policy.fingerprintConfirmed Policy.isIdentified Policy.isReadOnly Store.recordFor Trust.told Store.isFull Store.validate Session.saturatingAdd Session.secondsTo Session.secondsOf Session.replyOf Session.endedAs Session.triedOnce Session.isOf Session.lostReadWrite Session.noteAt Session.cannotGoOn Session.lapseOf Session.placeFrom Session.placeOf Session.nextNumber Validation.checked Validation.endSession Validation.runsFor Validation.startChecks Validation.newSession Validation.challengeFor Validation.begin Validation.startAt Validation.start Validation.succeededCore Validation.succeed Validation.fullFor Validation.failedCore Validation.triedCore Validation.wrong Validation.rightCode Validation.judge Validation.submitted Validation.submit New.newMethods New.newCore step begins judgedWrong blanked hideGate codeRuns
+unfolding padded put sameBytes allInRange contains idBytes idInRange idOf listInRange listOf phonesOf someOf kept appended madeId tooLong digits drawLimit drawn firstBelow group decode encode encodeAll Utf8.within isText right trim trimFront trimmed white encoded field fields recordOf Range.within Range.settingsFit Range.allOf Range.printable Range.methodFits Range.allFit Range.methodsFit Running.methodAt Running.inProgress Running.codeInProgress Range.triesFit Range.sessionFits Range.windowFits Range.phonesFit Range.inRange Replies.challengeChanged Replies.validated Replies.leave Replies.reply Replies.finish Range.served Replies.fill Policy.fingerprintConfirmed Policy.isIdentified Policy.isReadOnly Store.recordFor Trust.told Store.isFull Store.validate Times.saturatingAdd Times.secondsTo Session.secondsOf Session.replyOf Session.endedAs Session.triedOnce Session.isOf Session.lostReadWrite Session.noteAt Session.cannotGoOn Session.lapseOf Session.placeFrom Session.placeOf Times.nextNumber Validation.checked Validation.endSession Validation.runsFor Validation.startChecks Validation.newSession Validation.challengeFor Validation.begin Validation.startAt Validation.start Validation.succeededCore Validation.succeed Validation.fullFor Validation.failedCore Validation.triedCore Validation.wrong Validation.rightCode Validation.judge Validation.submitted Validation.submit New.newMethods New.newCore step begins judgedWrong blanked hideGate codeRuns
 examples = record {
   two =
       next (starts phone method 1_000 random-1234 random-0007 (λ d. (refl, refl)))

@@ -24,6 +24,7 @@ use Rattle.state.specs.Running.{isCode, isRunning, inProgress, codeInProgress, 
 use Rattle.range.specs.Range.{within, settingsFit, methodsFit, phonesFit, triesFit, sessionFits, inRange}
 use Rattle.state.specs.Replies.{leave, reply, finish}
 use Rattle.can_access.specs.Approval as Access
+use Rattle.dev_lock.specs.DevLock as DevLock
 use Rattle.policy_changes.specs.Changes as Changes
 use Rattle.car_identity.specs.CarIdentity as CarIdentity
 use Rattle.can.specs.Can as Can
@@ -38,8 +39,8 @@ use Rattle.session.specs.declared.Lapse.the-variants.{Stays, Ends}
 use Rattle.session.specs.Session.{endedAs, lapseOf, cannotGoOn}
 use Rattle.validation.specs.Calls as Validation
 use Rattle.methods.specs.Notes as Methods
-use Rattle.gate.specs.Gate.{Change, changed}
-use Rattle.gate.specs.Gate as Gate
+use Rattle.definition.specs.Gate.{Change, changed}
+use Rattle.definition.specs.Gate as Gate
 use Rattle.two_runs.specs.Demand.{codeRuns}
 
 -- ---- where digits may stand
@@ -202,7 +203,7 @@ turn-locked c true = search turning
 turn-locked c false = search turning
 
 pub turn-changed : (c : Core) (k : Change) → Turn c 0 (changed c k)
-unfolding changed Validation.cancel Validation.complete Validation.completed Validation.tick Methods.noteAvailable Methods.noteContinue Pairing.pair Pairing.unpair Pairing.clear Store.forget Store.prune Pairing.setPeer Store.restore Trust.told Store.stored Access.approve Access.approvedAs Access.revokeApproval Access.restoreApproval Access.setDevUnlocked Access.declareProduction CarIdentity.confirmPlatform CarIdentity.revokePlatform CarIdentity.confirmFingerprint CarIdentity.notePlatform Can.noteLogging Can.noteFdBus Changes.changed Probe.openProbe Probe.closeProbe Probe.windowChanged Tx.allow Probe.heard
+unfolding changed Validation.cancel Validation.complete Validation.completed Validation.tick Methods.noteAvailable Methods.noteContinue Pairing.pair Pairing.unpair Pairing.clear Store.forget Store.prune Pairing.setPeer Store.restore Trust.told Store.stored Access.approve Access.approvedAs Access.revokeApproval Access.restoreApproval DevLock.setDevUnlocked DevLock.declareProduction CarIdentity.confirmPlatform CarIdentity.revokePlatform CarIdentity.confirmFingerprint CarIdentity.notePlatform Can.noteLogging Can.noteFdBus Changes.changed Probe.openProbe Probe.closeProbe Probe.windowChanged Tx.allow Probe.heard
 turn-changed c (Gate.cancelValidation phone clock) = search turning
 turn-changed c (Gate.completeValidationAction session clock) = turn-ticking c clock _ _ (search turning)
 turn-changed c (Gate.tickValidation clock) = turn-ticking c clock _ _ (search turning)

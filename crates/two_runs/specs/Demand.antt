@@ -18,7 +18,7 @@ use Rattle.text.specs.Text.{isText, right}
 use Rattle.validation.specs.Calls.{draws, tick}
 use Rattle.answers.specs.Query as Query
 use Rattle.answers.specs.Query.{Query, Reply, numberedReply}
-use Rattle.gate.specs.Gate.{Change, Call, newGateCall, startValidation, submitValidationCode, change, ask, Given, isLent, step}
+use Rattle.definition.specs.Gate.{Change, Call, newGateCall, startValidation, submitValidationCode, change, ask, Given, isLent, step}
 
 -- ---- what is left out: the digits, and not their number
 

@@ -27,7 +27,8 @@ use Rattle.validations.specs.Store.{recordFor, isFull, validate}
 use Rattle.phone_trust.specs.Trust.{told}
 use Rattle.session.specs.declared.Lapse.{Lapse}
 use Rattle.session.specs.declared.Lapse.the-variants.{Stays, Ends}
-use Rattle.session.specs.Session.{saturatingAdd, secondsTo, replyOf, endedAs, triedOnce, isOf, lostReadWrite, noteAt, lapseOf, placeOf, nextNumber}
+use Rattle.session_times.specs.Times.{saturatingAdd, secondsTo, nextNumber}
+use Rattle.session.specs.Session.{replyOf, endedAs, triedOnce, isOf, lostReadWrite, noteAt, lapseOf, placeOf}
 
 -- ---- checks in the order written: the first that meets the call refuses it and changes nothing
 

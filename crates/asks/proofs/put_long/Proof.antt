@@ -7,85 +7,85 @@ enum-told : tie.Need-enum-told
 enum-told c = search needs
 
 can-read-write-approval-requires : tie.Need-can-read-write-approval-requires
-can-read-write-approval-requires c κs = search needs
+can-read-write-approval-requires c κs = tt
 
 put-approval-requires : tie.Need-put-approval-requires
-put-approval-requires c κs = search needs
+put-approval-requires c κs = tt
 
 enum-told-2 : tie.Need-enum-told-2
 enum-told-2 c = search needs
 
 can-access-state-requires : tie.Need-can-access-state-requires
-can-access-state-requires c κs = search needs
+can-access-state-requires c κs = tt
 
 put-access-requires : tie.Need-put-access-requires
-put-access-requires c κs = search needs
+put-access-requires c κs = tt
 
 enum-told-3 : tie.Need-enum-told-3
 enum-told-3 c = search needs
 
 list-paired-phones-requires : tie.Need-list-paired-phones-requires
-list-paired-phones-requires c κs = search needs
+list-paired-phones-requires c κs = tt
 
 put-phones-listed-requires : tie.Need-put-phones-listed-requires
-put-phones-listed-requires c κs = search needs
+put-phones-listed-requires c κs = tt
 
 enum-told-4 : tie.Need-enum-told-4
 enum-told-4 c = search needs
 
 lent-requires : tie.Need-lent-requires
-lent-requires c κs = search needs
+lent-requires c κs = tt
 
 phone-trust-level-requires : tie.Need-phone-trust-level-requires
-phone-trust-level-requires c κs = search needs
+phone-trust-level-requires c κs = tt
 
 put-trust-requires : tie.Need-put-trust-requires
-put-trust-requires c κs = search needs
+put-trust-requires c κs = tt
 
 enum-told-5 : tie.Need-enum-told-5
 enum-told-5 c = search needs
 
 ble-peer-requires : tie.Need-ble-peer-requires
-ble-peer-requires c κs = search needs
+ble-peer-requires c κs = tt
 
 put-peer-requires : tie.Need-put-peer-requires
-put-peer-requires c κs = search needs
+put-peer-requires c κs = tt
 
 enum-told-6 : tie.Need-enum-told-6
 enum-told-6 c = search needs
 
 phone-access-state-requires : tie.Need-phone-access-state-requires
-phone-access-state-requires c κs = search needs
+phone-access-state-requires c κs = tt
 
 put-phone-access-requires : tie.Need-put-phone-access-requires
-put-phone-access-requires c κs = search needs
+put-phone-access-requires c κs = tt
 
 enum-told-7 : tie.Need-enum-told-7
 enum-told-7 c = search needs
 
 validation-methods-requires : tie.Need-validation-methods-requires
-validation-methods-requires c κs = search needs
+validation-methods-requires c κs = tt
 
 put-methods-requires : tie.Need-put-methods-requires
-put-methods-requires c κs = search needs
+put-methods-requires c κs = tt
 
 enum-told-8 : tie.Need-enum-told-8
 enum-told-8 c = search needs
 
 current-validation-challenge-requires : tie.Need-current-validation-challenge-requires
-current-validation-challenge-requires c κs = search needs
+current-validation-challenge-requires c κs = tt
 
 put-challenge-requires : tie.Need-put-challenge-requires
-put-challenge-requires c κs = search needs
+put-challenge-requires c κs = tt
 
 enum-told-9 : tie.Need-enum-told-9
 enum-told-9 c = search needs
 
 encode-phone-validations-requires : tie.Need-encode-phone-validations-requires
-encode-phone-validations-requires c κs = search needs
+encode-phone-validations-requires c κs = tt
 
 put-encoded-requires : tie.Need-put-encoded-requires
-put-encoded-requires c κs = search needs
+put-encoded-requires c κs = tt
 
 same-length : tie.Need-same-length
 same-length c = search needs

@@ -7,7 +7,7 @@ slice-aggregate-same-bytes : tie.Need-slice-aggregate-same-bytes
 slice-aggregate-same-bytes c = search needs
 
 same-bytes-requires : tie.Need-same-bytes-requires
-same-bytes-requires c κs = search needs
+same-bytes-requires c κs = tt
 
 returns : tie.Need-returns
 unfolding named accessWords
@@ -17,7 +17,7 @@ slice-aggregate-same-bytes-2 : tie.Need-slice-aggregate-same-bytes-2
 slice-aggregate-same-bytes-2 c = search needs
 
 same-bytes-requires-2 : tie.Need-same-bytes-requires-2
-same-bytes-requires-2 c κs = search needs
+same-bytes-requires-2 c κs = tt
 
 returns-2 : tie.Need-returns-2
 unfolding named accessWords
@@ -27,7 +27,7 @@ slice-aggregate-same-bytes-3 : tie.Need-slice-aggregate-same-bytes-3
 slice-aggregate-same-bytes-3 c = search needs
 
 same-bytes-requires-3 : tie.Need-same-bytes-requires-3
-same-bytes-requires-3 c κs = search needs
+same-bytes-requires-3 c κs = tt
 
 returns-3 : tie.Need-returns-3
 unfolding named accessWords
@@ -37,7 +37,7 @@ slice-aggregate-same-bytes-4 : tie.Need-slice-aggregate-same-bytes-4
 slice-aggregate-same-bytes-4 c = search needs
 
 same-bytes-requires-4 : tie.Need-same-bytes-requires-4
-same-bytes-requires-4 c κs = search needs
+same-bytes-requires-4 c κs = tt
 
 returns-4 : tie.Need-returns-4
 unfolding named accessWords
@@ -47,7 +47,7 @@ slice-aggregate-same-bytes-5 : tie.Need-slice-aggregate-same-bytes-5
 slice-aggregate-same-bytes-5 c = search needs
 
 same-bytes-requires-5 : tie.Need-same-bytes-requires-5
-same-bytes-requires-5 c κs = search needs
+same-bytes-requires-5 c κs = tt
 
 returns-5 : tie.Need-returns-5
 unfolding named accessWords
@@ -57,7 +57,7 @@ slice-aggregate-same-bytes-6 : tie.Need-slice-aggregate-same-bytes-6
 slice-aggregate-same-bytes-6 c = search needs
 
 same-bytes-requires-6 : tie.Need-same-bytes-requires-6
-same-bytes-requires-6 c κs = search needs
+same-bytes-requires-6 c κs = tt
 
 returns-6 : tie.Need-returns-6
 unfolding named accessWords
@@ -67,7 +67,7 @@ slice-aggregate-same-bytes-7 : tie.Need-slice-aggregate-same-bytes-7
 slice-aggregate-same-bytes-7 c = search needs
 
 same-bytes-requires-7 : tie.Need-same-bytes-requires-7
-same-bytes-requires-7 c κs = search needs
+same-bytes-requires-7 c κs = tt
 
 returns-7 : tie.Need-returns-7
 unfolding named accessWords
@@ -77,7 +77,7 @@ slice-aggregate-same-bytes-8 : tie.Need-slice-aggregate-same-bytes-8
 slice-aggregate-same-bytes-8 c = search needs
 
 same-bytes-requires-8 : tie.Need-same-bytes-requires-8
-same-bytes-requires-8 c κs = search needs
+same-bytes-requires-8 c κs = tt
 
 returns-8 : tie.Need-returns-8
 unfolding named accessWords
@@ -87,14 +87,14 @@ slice-aggregate-same-bytes-9 : tie.Need-slice-aggregate-same-bytes-9
 slice-aggregate-same-bytes-9 c = search needs
 
 same-bytes-requires-9 : tie.Need-same-bytes-requires-9
-same-bytes-requires-9 c κs = search needs
+same-bytes-requires-9 c κs = tt
 
 returns-9 : tie.Need-returns-9
 unfolding named accessWords
 returns-9 c = rw (← c .before .before .before .before .before .before .before .before .before .before .before .before .before .before .before .before .before .before .before .before .before .before .before .before .before .same-bytes .ensures, c .before .before .before .before .before .before .before .before .before .before .before .before .before .before .before .before .before .before .before .before .before .before .before .before .if1 .left, ← c .before .before .before .before .before .before .before .before .before .before .before .before .before .before .before .before .before .before .before .before .before .before .same-bytes2 .ensures, c .before .before .before .before .before .before .before .before .before .before .before .before .before .before .before .before .before .before .before .before .before .if2 .left, ← c .before .before .before .before .before .before .before .before .before .before .before .before .before .before .before .before .before .before .before .same-bytes3 .ensures, c .before .before .before .before .before .before .before .before .before .before .before .before .before .before .before .before .before .before .if3 .left, ← c .before .before .before .before .before .before .before .before .before .before .before .before .before .before .before .before .same-bytes4 .ensures, c .before .before .before .before .before .before .before .before .before .before .before .before .before .before .before .if4 .left, ← c .before .before .before .before .before .before .before .before .before .before .before .before .before .same-bytes5 .ensures, c .before .before .before .before .before .before .before .before .before .before .before .before .if5 .left, ← c .before .before .before .before .before .before .before .before .before .before .same-bytes6 .ensures, c .before .before .before .before .before .before .before .before .before .if6 .left, ← c .before .before .before .before .before .before .before .same-bytes7 .ensures, c .before .before .before .before .before .before .if7 .left, ← c .before .before .before .before .same-bytes8 .ensures, c .before .before .before .if8 .left, ← c .before .same-bytes9 .ensures, c .if9 .taken)
 
 probe-name-requires : tie.Need-probe-name-requires
-probe-name-requires c κs = search needs
+probe-name-requires c κs = tt
 
 returns-10 : tie.Need-returns-10
 unfolding named accessWords

@@ -7,7 +7,7 @@ slice-aggregate-same-bytes : tie.Need-slice-aggregate-same-bytes
 slice-aggregate-same-bytes c = search needs
 
 same-bytes-requires : tie.Need-same-bytes-requires
-same-bytes-requires c κs = search needs
+same-bytes-requires c κs = tt
 
 returns : tie.Need-returns
 unfolding named sessionWords
@@ -17,7 +17,7 @@ slice-aggregate-same-bytes-2 : tie.Need-slice-aggregate-same-bytes-2
 slice-aggregate-same-bytes-2 c = search needs
 
 same-bytes-requires-2 : tie.Need-same-bytes-requires-2
-same-bytes-requires-2 c κs = search needs
+same-bytes-requires-2 c κs = tt
 
 returns-2 : tie.Need-returns-2
 unfolding named sessionWords
@@ -27,7 +27,7 @@ slice-aggregate-same-bytes-3 : tie.Need-slice-aggregate-same-bytes-3
 slice-aggregate-same-bytes-3 c = search needs
 
 same-bytes-requires-3 : tie.Need-same-bytes-requires-3
-same-bytes-requires-3 c κs = search needs
+same-bytes-requires-3 c κs = tt
 
 returns-3 : tie.Need-returns-3
 unfolding named sessionWords
@@ -37,7 +37,7 @@ slice-aggregate-same-bytes-4 : tie.Need-slice-aggregate-same-bytes-4
 slice-aggregate-same-bytes-4 c = search needs
 
 same-bytes-requires-4 : tie.Need-same-bytes-requires-4
-same-bytes-requires-4 c κs = search needs
+same-bytes-requires-4 c κs = tt
 
 returns-4 : tie.Need-returns-4
 unfolding named sessionWords
@@ -47,14 +47,14 @@ slice-aggregate-same-bytes-5 : tie.Need-slice-aggregate-same-bytes-5
 slice-aggregate-same-bytes-5 c = search needs
 
 same-bytes-requires-5 : tie.Need-same-bytes-requires-5
-same-bytes-requires-5 c κs = search needs
+same-bytes-requires-5 c κs = tt
 
 returns-5 : tie.Need-returns-5
 unfolding named sessionWords
 returns-5 c = rw (← c .before .before .before .before .before .before .before .before .before .before .before .before .before .same-bytes .ensures, c .before .before .before .before .before .before .before .before .before .before .before .before .if1 .left, ← c .before .before .before .before .before .before .before .before .before .before .same-bytes2 .ensures, c .before .before .before .before .before .before .before .before .before .if2 .left, ← c .before .before .before .before .before .before .before .same-bytes3 .ensures, c .before .before .before .before .before .before .if3 .left, ← c .before .before .before .before .same-bytes4 .ensures, c .before .before .before .if4 .left, ← c .before .same-bytes5 .ensures, c .if5 .taken)
 
 phone-name-requires : tie.Need-phone-name-requires
-phone-name-requires c κs = search needs
+phone-name-requires c κs = tt
 
 returns-6 : tie.Need-returns-6
 unfolding named sessionWords

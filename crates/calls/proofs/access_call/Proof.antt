@@ -7,58 +7,58 @@ enum-told : tie.Need-enum-told
 enum-told c = search needs
 
 approve-can-read-write-requires : tie.Need-approve-can-read-write-requires
-approve-can-read-write-requires c κs = search needs
+approve-can-read-write-requires c κs = tt
 
 enum-told-2 : tie.Need-enum-told-2
 enum-told-2 c = search needs
 
 revoke-can-read-write-approval-requires : tie.Need-revoke-can-read-write-approval-requires
-revoke-can-read-write-approval-requires c κs = search needs
+revoke-can-read-write-approval-requires c κs = tt
 
 enum-told-3 : tie.Need-enum-told-3
 enum-told-3 c = search needs
 
 restore-can-read-write-approval-requires : tie.Need-restore-can-read-write-approval-requires
-restore-can-read-write-approval-requires c κs = search needs
+restore-can-read-write-approval-requires c κs = tt
 
 enum-told-4 : tie.Need-enum-told-4
 enum-told-4 c = search needs
 
 set-can-dev-write-unlocked-requires : tie.Need-set-can-dev-write-unlocked-requires
-set-can-dev-write-unlocked-requires c κs = search needs
+set-can-dev-write-unlocked-requires c κs = tt
 
 enum-told-5 : tie.Need-enum-told-5
 enum-told-5 c = search needs
 
 declare-production-build-requires : tie.Need-declare-production-build-requires
-declare-production-build-requires c κs = search needs
+declare-production-build-requires c κs = tt
 
 enum-told-6 : tie.Need-enum-told-6
 enum-told-6 c = search needs
 
 confirm-car-identity-requires : tie.Need-confirm-car-identity-requires
-confirm-car-identity-requires c κs = search needs
+confirm-car-identity-requires c κs = tt
 
 enum-told-7 : tie.Need-enum-told-7
 enum-told-7 c = search needs
 
 revoke-car-identity-requires : tie.Need-revoke-car-identity-requires
-revoke-car-identity-requires c κs = search needs
+revoke-car-identity-requires c κs = tt
 
 enum-told-8 : tie.Need-enum-told-8
 enum-told-8 c = search needs
 
 lent-requires : tie.Need-lent-requires
-lent-requires c κs = search needs
+lent-requires c κs = tt
 
 confirm-car-fingerprint-requires : tie.Need-confirm-car-fingerprint-requires
-confirm-car-fingerprint-requires c κs = search needs
+confirm-car-fingerprint-requires c κs = tt
 
 enum-told-9 : tie.Need-enum-told-9
 enum-told-9 c = search needs
 
 set-can-read-only-requires : tie.Need-set-can-read-only-requires
-set-can-read-only-requires c κs = search needs
+set-can-read-only-requires c κs = tt
 
 returns : tie.Need-returns
 unfolding lentBytes

@@ -6,19 +6,19 @@ enum-told : tie.Need-enum-told
 enum-told c = search needs
 
 note-platform-id-requires : tie.Need-note-platform-id-requires
-note-platform-id-requires c κs = search needs
+note-platform-id-requires c κs = tt
 
 enum-told-2 : tie.Need-enum-told-2
 enum-told-2 c = search needs
 
 note-can-logging-requires : tie.Need-note-can-logging-requires
-note-can-logging-requires c κs = search needs
+note-can-logging-requires c κs = tt
 
 enum-told-3 : tie.Need-enum-told-3
 enum-told-3 c = search needs
 
 note-can-fd-bus-requires : tie.Need-note-can-fd-bus-requires
-note-can-fd-bus-requires c κs = search needs
+note-can-fd-bus-requires c κs = tt
 
 enum-told-4 : tie.Need-enum-told-4
 enum-told-4 c = search needs
@@ -27,7 +27,7 @@ cast-note-method-available : tie.Need-cast-note-method-available
 cast-note-method-available c = search needs
 
 note-method-available-requires : tie.Need-note-method-available-requires
-note-method-available-requires c κs = search needs
+note-method-available-requires c κs = tt
 
 enum-told-5 : tie.Need-enum-told-5
 enum-told-5 c = search needs
@@ -36,7 +36,7 @@ cast-note-method-can-continue : tie.Need-cast-note-method-can-continue
 cast-note-method-can-continue c = search needs
 
 note-method-can-continue-requires : tie.Need-note-method-can-continue-requires
-note-method-can-continue-requires c κs = search needs
+note-method-can-continue-requires c κs = tt
 
 returns : tie.Need-returns
 returns c = rw (c .before .enum-told .given .1) (c .note-platform-id .ensures)

@@ -7,28 +7,28 @@ enum-told : tie.Need-enum-told
 enum-told c = search needs
 
 open-identity-probe-requires : tie.Need-open-identity-probe-requires
-open-identity-probe-requires c κs = search needs
+open-identity-probe-requires c κs = tt
 
 enum-told-2 : tie.Need-enum-told-2
 enum-told-2 c = search needs
 
 close-identity-probe-requires : tie.Need-close-identity-probe-requires
-close-identity-probe-requires c κs = search needs
+close-identity-probe-requires c κs = tt
 
 enum-told-3 : tie.Need-enum-told-3
 enum-told-3 c = search needs
 
 lent-requires : tie.Need-lent-requires
-lent-requires c κs = search needs
+lent-requires c κs = tt
 
 allow-can-tx-requires : tie.Need-allow-can-tx-requires
-allow-can-tx-requires c κs = search needs
+allow-can-tx-requires c κs = tt
 
 enum-told-4 : tie.Need-enum-told-4
 enum-told-4 c = search needs
 
 heard-can-frame-requires : tie.Need-heard-can-frame-requires
-heard-can-frame-requires c κs = search needs
+heard-can-frame-requires c κs = tt
 
 returns : tie.Need-returns
 unfolding lentBytes

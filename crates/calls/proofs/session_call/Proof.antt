@@ -4,46 +4,46 @@ use Rattle.calls.proofs.session_call.Statement.{statement}
 use Rattle.calls.proofs.session_call.Tie as tie
 
 lent-requires : tie.Need-lent-requires
-lent-requires c κs = search needs
+lent-requires c κs = tt
 
 enum-told : tie.Need-enum-told
 enum-told c = search needs
 
 lent-requires-2 : tie.Need-lent-requires-2
-lent-requires-2 c κs = search needs
+lent-requires-2 c κs = tt
 
 lent-requires-3 : tie.Need-lent-requires-3
-lent-requires-3 c κs = search needs
+lent-requires-3 c κs = tt
 
 start-validation-requires : tie.Need-start-validation-requires
-start-validation-requires c κs = search needs
+start-validation-requires c κs = tt
 
 enum-told-2 : tie.Need-enum-told-2
 enum-told-2 c = search needs
 
 lent-requires-4 : tie.Need-lent-requires-4
-lent-requires-4 c κs = search needs
+lent-requires-4 c κs = tt
 
 submit-validation-code-requires : tie.Need-submit-validation-code-requires
-submit-validation-code-requires c κs = search needs
+submit-validation-code-requires c κs = tt
 
 enum-told-3 : tie.Need-enum-told-3
 enum-told-3 c = search needs
 
 cancel-validation-requires : tie.Need-cancel-validation-requires
-cancel-validation-requires c κs = search needs
+cancel-validation-requires c κs = tt
 
 enum-told-4 : tie.Need-enum-told-4
 enum-told-4 c = search needs
 
 complete-validation-action-at-requires : tie.Need-complete-validation-action-at-requires
-complete-validation-action-at-requires c κs = search needs
+complete-validation-action-at-requires c κs = tt
 
 enum-told-5 : tie.Need-enum-told-5
 enum-told-5 c = search needs
 
 tick-validation-requires : tie.Need-tick-validation-requires
-tick-validation-requires c κs = search needs
+tick-validation-requires c κs = tt
 
 returns : tie.Need-returns
 unfolding lentBytes

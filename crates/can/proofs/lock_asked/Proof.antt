@@ -1,5 +1,4 @@
 use Rattle.can.specs.Can.{lockAsked}
-use borrow.Author.Needs.{needs}
 use Rattle.can.proofs.lock_asked.Statement.{statement}
 use Rattle.can.proofs.lock_asked.Tie as tie
 
@@ -12,7 +11,7 @@ unfolding lockAsked
 returns-2 c = rw (c .before .if1 .left, c .if2 .taken)
 
 is-car-fingerprint-confirmed-requires : tie.Need-is-car-fingerprint-confirmed-requires
-is-car-fingerprint-confirmed-requires c κs = search needs
+is-car-fingerprint-confirmed-requires c κs = tt
 
 returns-3 : tie.Need-returns-3
 unfolding lockAsked

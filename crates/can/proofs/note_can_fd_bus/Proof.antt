@@ -8,20 +8,20 @@ element-write-buses : tie.Need-element-write-buses
 element-write-buses c = search needs
 
 with-buses-requires : tie.Need-with-buses-requires
-with-buses-requires c κs = search needs
+with-buses-requires c κs = tt
 
 with-policy-requires : tie.Need-with-policy-requires
-with-policy-requires c κs = search needs
+with-policy-requires c κs = tt
 
 leave-requires : tie.Need-leave-requires
-leave-requires c κs = search needs
+leave-requires c κs = tt
 
 returns : tie.Need-returns
 unfolding noteFdBus
 returns c = rw (lt-ltb _ _ (c .before .before .before .before .before .if1 .taken), ← c .before .before .with-buses .ensures, ← c .before .with-policy .ensures, ← c .leave .ensures)
 
 leave-requires-2 : tie.Need-leave-requires-2
-leave-requires-2 c κs = search needs
+leave-requires-2 c κs = tt
 
 returns-2 : tie.Need-returns-2
 unfolding noteFdBus

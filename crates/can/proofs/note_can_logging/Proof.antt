@@ -1,16 +1,15 @@
 use Rattle.can.specs.Can.{noteLogging}
-use borrow.Author.Needs.{needs}
 use Rattle.can.proofs.note_can_logging.Statement.{statement}
 use Rattle.can.proofs.note_can_logging.Tie as tie
 
 with-buses-requires : tie.Need-with-buses-requires
-with-buses-requires c κs = search needs
+with-buses-requires c κs = tt
 
 with-policy-requires : tie.Need-with-policy-requires
-with-policy-requires c κs = search needs
+with-policy-requires c κs = tt
 
 leave-requires : tie.Need-leave-requires
-leave-requires c κs = search needs
+leave-requires c κs = tt
 
 returns : tie.Need-returns
 unfolding noteLogging

@@ -1,35 +1,34 @@
 use Rattle.can.specs.Can.{setReadOnly}
-use borrow.Author.Needs.{needs}
 use Rattle.can.proofs.set_can_read_only.Statement.{statement}
 use Rattle.can.proofs.set_can_read_only.Tie as tie
 
 lock-asked-requires : tie.Need-lock-asked-requires
-lock-asked-requires c κs = search needs
+lock-asked-requires c κs = tt
 
 with-buses-requires : tie.Need-with-buses-requires
-with-buses-requires c κs = search needs
+with-buses-requires c κs = tt
 
 is-can-read-only-requires : tie.Need-is-can-read-only-requires
-is-can-read-only-requires c κs = search needs
+is-can-read-only-requires c κs = tt
 
 yes-no-requires : tie.Need-yes-no-requires
-yes-no-requires c κs = search needs
+yes-no-requires c κs = tt
 
 relocked-requires : tie.Need-relocked-requires
-relocked-requires c κs = search needs
+relocked-requires c κs = tt
 
 with-probe-requires : tie.Need-with-probe-requires
-with-probe-requires c κs = search needs
+with-probe-requires c κs = tt
 
 changed-requires : tie.Need-changed-requires
-changed-requires c κs = search needs
+changed-requires c κs = tt
 
 returns : tie.Need-returns
 unfolding setReadOnly
 returns c = rw (← c .before .before .before .before .before .before .before .before .before .lock-asked .ensures, ← c .before .before .before .before .before .before .before .with-buses .ensures, ← c .before .before .before .before .before .before .is-can-read-only .ensures, ← c .before .before .before .before .before .yes-no .ensures, c .before .before .before .before .if1 .taken, ← c .before .before .relocked .ensures, ← c .before .with-probe .ensures, ← c .changed .ensures)
 
 changed-requires-2 : tie.Need-changed-requires-2
-changed-requires-2 c κs = search needs
+changed-requires-2 c κs = tt
 
 returns-2 : tie.Need-returns-2
 unfolding setReadOnly

@@ -1,23 +1,22 @@
 use Rattle.can_access.specs.Approval.{approve}
-use borrow.Author.Needs.{needs}
 use Rattle.can_access.proofs.approve_can_read_write.Statement.{statement}
 use Rattle.can_access.proofs.approve_can_read_write.Tie as tie
 
 is-car-fingerprint-confirmed-requires : tie.Need-is-car-fingerprint-confirmed-requires
-is-car-fingerprint-confirmed-requires c κs = search needs
+is-car-fingerprint-confirmed-requires c κs = tt
 
 with-access-requires : tie.Need-with-access-requires
-with-access-requires c κs = search needs
+with-access-requires c κs = tt
 
 approved-as-requires : tie.Need-approved-as-requires
-approved-as-requires c κs = search needs
+approved-as-requires c κs = tt
 
 returns : tie.Need-returns
 unfolding approve
 returns c = rw (← c .before .before .before .before .before .is-car-fingerprint-confirmed .ensures, c .before .before .before .before .if1 .taken, ← c .before .with-access .ensures, ← c .approved-as .ensures)
 
 leave-requires : tie.Need-leave-requires
-leave-requires c κs = search needs
+leave-requires c κs = tt
 
 returns-2 : tie.Need-returns-2
 unfolding approve

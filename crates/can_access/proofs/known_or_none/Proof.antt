@@ -1,5 +1,4 @@
 use Rattle.can_access.specs.Approval.{knownOrNone}
-use borrow.Author.Needs.{needs}
 use Rattle.can_access.proofs.known_or_none.Statement.{statement}
 use Rattle.can_access.proofs.known_or_none.Tie as tie
 
@@ -8,7 +7,7 @@ unfolding knownOrNone
 returns c = rw (c .if1 .taken)
 
 no-car-requires : tie.Need-no-car-requires
-no-car-requires c κs = search needs
+no-car-requires c κs = tt
 
 returns-2 : tie.Need-returns-2
 unfolding knownOrNone

@@ -1,16 +1,15 @@
 use Rattle.can_access.specs.Approval.{restoreApproval}
-use borrow.Author.Needs.{needs}
 use Rattle.can_access.proofs.restore_can_read_write_approval.Statement.{statement}
 use Rattle.can_access.proofs.restore_can_read_write_approval.Tie as tie
 
 known-or-none-requires : tie.Need-known-or-none-requires
-known-or-none-requires c κs = search needs
+known-or-none-requires c κs = tt
 
 with-access-requires : tie.Need-with-access-requires
-with-access-requires c κs = search needs
+with-access-requires c κs = tt
 
 changed-requires : tie.Need-changed-requires
-changed-requires c κs = search needs
+changed-requires c κs = tt
 
 returns : tie.Need-returns
 unfolding restoreApproval

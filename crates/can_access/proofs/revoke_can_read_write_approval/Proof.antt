@@ -1,25 +1,24 @@
 use Rattle.can_access.specs.Approval.{revokeApproval}
-use borrow.Author.Needs.{needs}
 use Rattle.can_access.proofs.revoke_can_read_write_approval.Statement.{statement}
 use Rattle.can_access.proofs.revoke_can_read_write_approval.Tie as tie
 
 no-car-requires : tie.Need-no-car-requires
-no-car-requires c κs = search needs
+no-car-requires c κs = tt
 
 with-access-requires : tie.Need-with-access-requires
-with-access-requires c κs = search needs
+with-access-requires c κs = tt
 
 is-can-read-only-requires : tie.Need-is-can-read-only-requires
-is-can-read-only-requires c κs = search needs
+is-can-read-only-requires c κs = tt
 
 approval-changed-requires : tie.Need-approval-changed-requires
-approval-changed-requires c κs = search needs
+approval-changed-requires c κs = tt
 
 with-policy-requires : tie.Need-with-policy-requires
-with-policy-requires c κs = search needs
+with-policy-requires c κs = tt
 
 reply-requires : tie.Need-reply-requires
-reply-requires c κs = search needs
+reply-requires c κs = tt
 
 returns : tie.Need-returns
 unfolding revokeApproval

@@ -1,23 +1,22 @@
 use Rattle.can_probe.specs.Calls.{closeProbe}
-use borrow.Author.Needs.{needs}
 use Rattle.can_probe.proofs.close_identity_probe.Statement.{statement}
 use Rattle.can_probe.proofs.close_identity_probe.Tie as tie
 
 no-window-requires : tie.Need-no-window-requires
-no-window-requires c κs = search needs
+no-window-requires c κs = tt
 
 with-window-requires : tie.Need-with-window-requires
-with-window-requires c κs = search needs
+with-window-requires c κs = tt
 
 window-changed-requires : tie.Need-window-changed-requires
-window-changed-requires c κs = search needs
+window-changed-requires c κs = tt
 
 returns : tie.Need-returns
 unfolding closeProbe
 returns c = rw (c .window-changed .ensures, c .before .with-window .ensures, c .before .before .no-window .ensures, c .before .before .before .if1 .taken)
 
 leave-requires : tie.Need-leave-requires
-leave-requires c κs = search needs
+leave-requires c κs = tt
 
 returns-2 : tie.Need-returns-2
 unfolding closeProbe

@@ -1,29 +1,28 @@
 use Rattle.can_probe.specs.Calls.{heard}
-use borrow.Author.Needs.{needs}
 use Rattle.can_probe.proofs.heard_can_frame.Statement.{statement}
 use Rattle.can_probe.proofs.heard_can_frame.Tie as tie
 
 bus-exists-requires : tie.Need-bus-exists-requires
-bus-exists-requires c κs = search needs
+bus-exists-requires c κs = tt
 
 mark-of-requires : tie.Need-mark-of-requires
-mark-of-requires c κs = search needs
+mark-of-requires c κs = tt
 
 with-mark-requires : tie.Need-with-mark-requires
-with-mark-requires c κs = search needs
+with-mark-requires c κs = tt
 
 with-probe-requires : tie.Need-with-probe-requires
-with-probe-requires c κs = search needs
+with-probe-requires c κs = tt
 
 leave-requires : tie.Need-leave-requires
-leave-requires c κs = search needs
+leave-requires c κs = tt
 
 returns : tie.Need-returns
 unfolding heard
 returns c = rw (c .leave .ensures, c .before .with-probe .ensures, c .before .before .with-mark .ensures, c .before .before .before .mark-of .ensures, ← c .before .before .before .before .before .before .before .bus-exists .ensures, c .before .before .before .before .before .before .if1 .taken)
 
 leave-requires-2 : tie.Need-leave-requires-2
-leave-requires-2 c κs = search needs
+leave-requires-2 c κs = tt
 
 returns-2 : tie.Need-returns-2
 unfolding heard

@@ -1,15 +1,14 @@
 use Rattle.can_probe.specs.Calls.{isValidProbe}
 use Rattle.range.specs.Range.{within}
-use borrow.Author.Needs.{needs}
 use borrow.Author.Tests.{lt-ltb, le-ltb}
 use Rattle.can_probe.proofs.is_valid_probe.Statement.{statement}
 use Rattle.can_probe.proofs.is_valid_probe.Tie as tie
 
 bus-exists-requires : tie.Need-bus-exists-requires
-bus-exists-requires c κs = search needs
+bus-exists-requires c κs = tt
 
 is-can-fd-bus-requires : tie.Need-is-can-fd-bus-requires
-is-can-fd-bus-requires c κs = search needs
+is-can-fd-bus-requires c κs = tt
 
 returns : tie.Need-returns
 unfolding isValidProbe
@@ -24,7 +23,7 @@ unfolding isValidProbe within
 returns-3 c = rw (← c .before .before .before .is-can-fd-bus .ensures, ← c .before .before .before .before .before .before .bus-exists .ensures, c .before .before .before .before .before .if1 .taken, c .before .before .if2 .left, le-ltb _ _ (c .before .if3 .left), lt-ltb _ _ (c .if4 .taken))
 
 ids-in-range-requires : tie.Need-ids-in-range-requires
-ids-in-range-requires c κs = search needs
+ids-in-range-requires c κs = tt
 
 returns-4 : tie.Need-returns-4
 unfolding isValidProbe within

@@ -1,19 +1,18 @@
 use Rattle.can_probe.specs.Calls.{windowChanged}
-use borrow.Author.Needs.{needs}
 use Rattle.can_probe.proofs.window_changed.Statement.{statement}
 use Rattle.can_probe.proofs.window_changed.Tie as tie
 
 is-can-read-only-requires : tie.Need-is-can-read-only-requires
-is-can-read-only-requires c κs = search needs
+is-can-read-only-requires c κs = tt
 
 read-only-changed-requires : tie.Need-read-only-changed-requires
-read-only-changed-requires c κs = search needs
+read-only-changed-requires c κs = tt
 
 with-probe-requires : tie.Need-with-probe-requires
-with-probe-requires c κs = search needs
+with-probe-requires c κs = tt
 
 reply-requires : tie.Need-reply-requires
-reply-requires c κs = search needs
+reply-requires c κs = tt
 
 returns : tie.Need-returns
 unfolding windowChanged

@@ -4,25 +4,25 @@ use Rattle.can_tx.proofs.allow_can_tx.Statement.{statement}
 use Rattle.can_tx.proofs.allow_can_tx.Tie as tie
 
 id-in-range-requires : tie.Need-id-in-range-requires
-id-in-range-requires c κs = search needs
+id-in-range-requires c κs = tt
 
 enum-told : tie.Need-enum-told
 enum-told c = search needs
 
 allow-platform-requires : tie.Need-allow-platform-requires
-allow-platform-requires c κs = search needs
+allow-platform-requires c κs = tt
 
 enum-told-2 : tie.Need-enum-told-2
 enum-told-2 c = search needs
 
 allows-command-requires : tie.Need-allows-command-requires
-allows-command-requires c κs = search needs
+allows-command-requires c κs = tt
 
 yes-no-requires : tie.Need-yes-no-requires
-yes-no-requires c κs = search needs
+yes-no-requires c κs = tt
 
 leave-requires : tie.Need-leave-requires
-leave-requires c κs = search needs
+leave-requires c κs = tt
 
 returns : tie.Need-returns
 unfolding allow
@@ -33,7 +33,7 @@ unfolding allow
 returns-2 c = rw (c .leave .ensures, c .before .yes-no .ensures, c .before .before .allows-command .ensures, ← c .before .before .before .before .before .before .id-in-range .ensures, c .before .before .before .before .before .if1 .taken, c .before .before .before .enum-told2 .given .1)
 
 leave-requires-2 : tie.Need-leave-requires-2
-leave-requires-2 c κs = search needs
+leave-requires-2 c κs = tt
 
 returns-3 : tie.Need-returns-3
 unfolding allow

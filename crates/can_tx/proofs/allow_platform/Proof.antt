@@ -1,20 +1,19 @@
 use Rattle.can_tx.specs.Tx.{allowPlatform}
-use borrow.Author.Needs.{needs}
 use Rattle.can_tx.proofs.allow_platform.Statement.{statement}
 use Rattle.can_tx.proofs.allow_platform.Tie as tie
 
 is-can-bus-read-only-requires : tie.Need-is-can-bus-read-only-requires
-is-can-bus-read-only-requires c κs = search needs
+is-can-bus-read-only-requires c κs = tt
 
 through-window-requires : tie.Need-through-window-requires
-through-window-requires c κs = search needs
+through-window-requires c κs = tt
 
 returns : tie.Need-returns
 unfolding allowPlatform
 returns c = rw (c .through-window .ensures, ← c .before .before .is-can-bus-read-only .ensures, c .before .if1 .taken)
 
 leave-requires : tie.Need-leave-requires
-leave-requires c κs = search needs
+leave-requires c κs = tt
 
 returns-2 : tie.Need-returns-2
 unfolding allowPlatform

@@ -1,18 +1,17 @@
 use Rattle.can_tx.specs.Tx.{allowsCommand}
-use borrow.Author.Needs.{needs}
 use borrow.Author.Tests.{eq-eqb, ne-eqb}
 use Rattle.can_tx.proofs.allows_command.Statement.{statement}
 use Rattle.can_tx.proofs.allows_command.Tie as tie
 
 is-can-bus-read-only-requires : tie.Need-is-can-bus-read-only-requires
-is-can-bus-read-only-requires c κs = search needs
+is-can-bus-read-only-requires c κs = tt
 
 returns : tie.Need-returns
 unfolding allowsCommand
 returns c = rw (← c .before .is-can-bus-read-only .ensures, eq-eqb _ _ (c .before .before .before .if1 .taken), c .if2 .taken)
 
 is-phone-validated-requires : tie.Need-is-phone-validated-requires
-is-phone-validated-requires c κs = search needs
+is-phone-validated-requires c κs = tt
 
 returns-2 : tie.Need-returns-2
 unfolding allowsCommand

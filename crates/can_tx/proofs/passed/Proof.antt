@@ -6,22 +6,22 @@ enum-told : tie.Need-enum-told
 enum-told c = search needs
 
 leave-requires : tie.Need-leave-requires
-leave-requires c κs = search needs
+leave-requires c κs = tt
 
 enum-known-found : tie.Need-enum-known-found
 enum-known-found c = search needs
 
 marked-sent-requires : tie.Need-marked-sent-requires
-marked-sent-requires c κs = search needs
+marked-sent-requires c κs = tt
 
 with-window-requires : tie.Need-with-window-requires
-with-window-requires c κs = search needs
+with-window-requires c κs = tt
 
 with-probe-requires : tie.Need-with-probe-requires
-with-probe-requires c κs = search needs
+with-probe-requires c κs = tt
 
 leave-requires-2 : tie.Need-leave-requires-2
-leave-requires-2 c κs = search needs
+leave-requires-2 c κs = tt
 
 returns : tie.Need-returns
 returns c = rw (c .leave .ensures, c .before .enum-told .given .1)

@@ -1,10 +1,9 @@
-use borrow.Author.Needs.{needs}
 use borrow.Author.Tests.{eq-eqb, ne-eqb}
 use Rattle.can_tx.proofs.reaches_window.Statement.{statement}
 use Rattle.can_tx.proofs.reaches_window.Tie as tie
 
 is-open-requires : tie.Need-is-open-requires
-is-open-requires c κs = search needs
+is-open-requires c κs = tt
 
 returns : tie.Need-returns
 returns c = rw (c .is-open .ensures, eq-eqb _ _ (c .before .before .before .if1 .taken), eq-eqb _ _ (c .before .if2 .taken))

@@ -36,7 +36,7 @@ slice-aggregate-put-3 : tie.Need-slice-aggregate-put-3
 slice-aggregate-put-3 c = search needs
 
 little4-requires : tie.Need-little4-requires
-little4-requires c κs = search needs
+little4-requires c κs = tt
 
 slice-aggregate-put-4 : tie.Need-slice-aggregate-put-4
 slice-aggregate-put-4 c = search needs
@@ -60,7 +60,7 @@ slice-aggregate-sha256 : tie.Need-slice-aggregate-sha256
 slice-aggregate-sha256 c = sym (length-take-le _ _ (search needs))
 
 sha256-requires : tie.Need-sha256-requires
-sha256-requires c κs = search needs
+sha256-requires c κs = tt
 
 returns-2 : tie.Need-returns-2
 unfolding carDigest domain done
@@ -85,13 +85,13 @@ put-requires-4 : tie.Need-put-requires-4
 put-requires-4 c κs = rw length-take (omega arith)
 
 initial-requires : tie.Need-initial-requires
-initial-requires c κs = search needs
+initial-requires c κs = tt
 
 slice-aggregate-hash-blocks : tie.Need-slice-aggregate-hash-blocks
 slice-aggregate-hash-blocks c = search needs
 
 hash-blocks-requires : tie.Need-hash-blocks-requires
-hash-blocks-requires c κs = search needs
+hash-blocks-requires c κs = tt
 
 add-n-2 : tie.Need-add-n-2
 add-n-2 c = search needs
@@ -106,7 +106,7 @@ part-finish-end : tie.Need-part-finish-end
 part-finish-end c = search needs
 
 finish-requires : tie.Need-finish-requires
-finish-requires c κs = search needs
+finish-requires c κs = tt
 
 returns-3 : tie.Need-returns-3
 unfolding carDigest domain done

@@ -1,13 +1,12 @@
 use Rattle.car_identity.specs.CarIdentity.{confirmPlatform}
-use borrow.Author.Needs.{needs}
 use Rattle.car_identity.proofs.confirm_car_identity.Statement.{statement}
 use Rattle.car_identity.proofs.confirm_car_identity.Tie as tie
 
 with-identity-requires : tie.Need-with-identity-requires
-with-identity-requires c κs = search needs
+with-identity-requires c κs = tt
 
 changed-requires : tie.Need-changed-requires
-changed-requires c κs = search needs
+changed-requires c κs = tt
 
 returns : tie.Need-returns
 unfolding confirmPlatform

@@ -1,16 +1,15 @@
 use Rattle.car_identity.specs.CarIdentity.{notePlatform}
-use borrow.Author.Needs.{needs}
 use Rattle.car_identity.proofs.note_platform_id.Statement.{statement}
 use Rattle.car_identity.proofs.note_platform_id.Tie as tie
 
 with-identity-requires : tie.Need-with-identity-requires
-with-identity-requires c κs = search needs
+with-identity-requires c κs = tt
 
 with-policy-requires : tie.Need-with-policy-requires
-with-policy-requires c κs = search needs
+with-policy-requires c κs = tt
 
 leave-requires : tie.Need-leave-requires
-leave-requires c κs = search needs
+leave-requires c κs = tt
 
 returns : tie.Need-returns
 unfolding notePlatform

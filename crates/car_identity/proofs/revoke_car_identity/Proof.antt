@@ -1,25 +1,24 @@
 use Rattle.car_identity.specs.CarIdentity.{revokePlatform}
-use borrow.Author.Needs.{needs}
 use Rattle.car_identity.proofs.revoke_car_identity.Statement.{statement}
 use Rattle.car_identity.proofs.revoke_car_identity.Tie as tie
 
 relocked-requires : tie.Need-relocked-requires
-relocked-requires c κs = search needs
+relocked-requires c κs = tt
 
 with-probe-requires : tie.Need-with-probe-requires
-with-probe-requires c κs = search needs
+with-probe-requires c κs = tt
 
 no-car-requires : tie.Need-no-car-requires
-no-car-requires c κs = search needs
+no-car-requires c κs = tt
 
 with-identity-requires : tie.Need-with-identity-requires
-with-identity-requires c κs = search needs
+with-identity-requires c κs = tt
 
 with-buses-requires : tie.Need-with-buses-requires
-with-buses-requires c κs = search needs
+with-buses-requires c κs = tt
 
 changed-requires : tie.Need-changed-requires
-changed-requires c κs = search needs
+changed-requires c κs = tt
 
 returns : tie.Need-returns
 unfolding revokePlatform

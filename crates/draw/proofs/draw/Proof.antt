@@ -22,7 +22,7 @@ sub-limit : tie.Need-sub-limit
 sub-limit c = omega (arith, mod-le 4294967295 (c .code-space .result))
 
 first-below-requires : tie.Need-first-below-requires
-first-below-requires c κs = search needs
+first-below-requires c κs = tt
 
 enum-known-found : tie.Need-enum-known-found
 enum-known-found c = search needs

@@ -1,14 +1,13 @@
 -- The test on the ids is the definition's; where they are equal, the data decides. Assumes nothing.
-use borrow.Author.Needs.{needs}
 use Rattle.frames.specs.Frames.{isEntry}
 use Rattle.frames.proofs.is_entry.Statement.{statement}
 use Rattle.frames.proofs.is_entry.Tie as tie
 
 same-id-requires : tie.Need-same-id-requires
-same-id-requires c κs = search needs
+same-id-requires c κs = tt
 
 same-data-requires : tie.Need-same-data-requires
-same-data-requires c κs = search needs
+same-data-requires c κs = tt
 
 returns : tie.Need-returns
 unfolding isEntry

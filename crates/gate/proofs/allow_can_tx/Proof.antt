@@ -1,24 +1,23 @@
 use Rattle.range.specs.Range as Range
-use borrow.Author.Needs.{needs}
-use Rattle.gate.specs.Gate.{changed, step}
+use Rattle.definition.specs.Gate.{changed, step}
 use Rattle.gate.proofs.allow_can_tx.Statement.{statement}
 use Rattle.gate.proofs.allow_can_tx.Tie as tie
 
 in-range-requires : tie.Need-in-range-requires
-in-range-requires c κs = search needs
+in-range-requires c κs = tt
 
 allow-can-tx-requires : tie.Need-allow-can-tx-requires
-allow-can-tx-requires c κs = search needs
+allow-can-tx-requires c κs = tt
 
 fill-requires : tie.Need-fill-requires
-fill-requires c κs = search needs
+fill-requires c κs = tt
 
 returns : tie.Need-returns
 unfolding step changed Range.served
 returns c = rw (c .fill .ensures, c .before .allow-can-tx .ensures, ← c .before .before .before .before .in-range .ensures, c .before .before .before .if1 .taken)
 
 unserved-requires : tie.Need-unserved-requires
-unserved-requires c κs = search needs
+unserved-requires c κs = tt
 
 returns-2 : tie.Need-returns-2
 unfolding step changed Range.served

@@ -1,20 +1,19 @@
 use Rattle.range.specs.Range as Range
-use borrow.Author.Needs.{needs}
 use Rattle.gate.proofs.answered.Statement.{statement}
 use Rattle.gate.proofs.answered.Tie as tie
 
 in-range-requires : tie.Need-in-range-requires
-in-range-requires c κs = search needs
+in-range-requires c κs = tt
 
 fill-requires : tie.Need-fill-requires
-fill-requires c κs = search needs
+fill-requires c κs = tt
 
 returns : tie.Need-returns
 unfolding Range.served
 returns c = rw (c .fill .ensures, ← c .before .before .before .in-range .ensures, c .before .before .if1 .taken)
 
 unserved-requires : tie.Need-unserved-requires
-unserved-requires c κs = search needs
+unserved-requires c κs = tt
 
 returns-2 : tie.Need-returns-2
 unfolding Range.served

@@ -1,13 +1,12 @@
-use borrow.Author.Needs.{needs}
-use Rattle.gate.specs.Gate.{changed, step}
+use Rattle.definition.specs.Gate.{changed, step}
 use Rattle.gate.proofs.approve_can_read_write.Statement.{statement}
 use Rattle.gate.proofs.approve_can_read_write.Tie as tie
 
 approve-can-read-write-requires : tie.Need-approve-can-read-write-requires
-approve-can-read-write-requires c κs = search needs
+approve-can-read-write-requires c κs = tt
 
 answered-requires : tie.Need-answered-requires
-answered-requires c κs = search needs
+answered-requires c κs = tt
 
 returns : tie.Need-returns
 unfolding step changed

@@ -1,13 +1,12 @@
-use borrow.Author.Needs.{needs}
-use Rattle.gate.specs.Gate.{changed, step}
+use Rattle.definition.specs.Gate.{changed, step}
 use Rattle.gate.proofs.clear_paired_phones.Statement.{statement}
 use Rattle.gate.proofs.clear_paired_phones.Tie as tie
 
 clear-paired-phones-requires : tie.Need-clear-paired-phones-requires
-clear-paired-phones-requires c κs = search needs
+clear-paired-phones-requires c κs = tt
 
 answered-requires : tie.Need-answered-requires
-answered-requires c κs = search needs
+answered-requires c κs = tt
 
 returns : tie.Need-returns
 unfolding step changed

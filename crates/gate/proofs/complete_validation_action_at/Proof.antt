@@ -1,13 +1,12 @@
-use borrow.Author.Needs.{needs}
-use Rattle.gate.specs.Gate.{changed, step}
+use Rattle.definition.specs.Gate.{changed, step}
 use Rattle.gate.proofs.complete_validation_action_at.Statement.{statement}
 use Rattle.gate.proofs.complete_validation_action_at.Tie as tie
 
 complete-validation-action-at-requires : tie.Need-complete-validation-action-at-requires
-complete-validation-action-at-requires c κs = search needs
+complete-validation-action-at-requires c κs = tt
 
 answered-requires : tie.Need-answered-requires
-answered-requires c κs = search needs
+answered-requires c κs = tt
 
 returns : tie.Need-returns
 unfolding step changed

@@ -1,13 +1,12 @@
-use borrow.Author.Needs.{needs}
-use Rattle.gate.specs.Gate.{changed, step}
+use Rattle.definition.specs.Gate.{changed, step}
 use Rattle.gate.proofs.confirm_car_fingerprint.Statement.{statement}
 use Rattle.gate.proofs.confirm_car_fingerprint.Tie as tie
 
 confirm-car-fingerprint-requires : tie.Need-confirm-car-fingerprint-requires
-confirm-car-fingerprint-requires c κs = search needs
+confirm-car-fingerprint-requires c κs = tt
 
 answered-requires : tie.Need-answered-requires
-answered-requires c κs = search needs
+answered-requires c κs = tt
 
 returns : tie.Need-returns
 unfolding step changed

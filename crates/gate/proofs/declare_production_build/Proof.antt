@@ -1,13 +1,12 @@
-use borrow.Author.Needs.{needs}
-use Rattle.gate.specs.Gate.{changed, step}
+use Rattle.definition.specs.Gate.{changed, step}
 use Rattle.gate.proofs.declare_production_build.Statement.{statement}
 use Rattle.gate.proofs.declare_production_build.Tie as tie
 
 declare-production-build-requires : tie.Need-declare-production-build-requires
-declare-production-build-requires c κs = search needs
+declare-production-build-requires c κs = tt
 
 answered-requires : tie.Need-answered-requires
-answered-requires c κs = search needs
+answered-requires c κs = tt
 
 returns : tie.Need-returns
 unfolding step changed

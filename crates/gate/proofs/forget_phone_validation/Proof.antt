@@ -1,13 +1,12 @@
-use borrow.Author.Needs.{needs}
-use Rattle.gate.specs.Gate.{changed, step}
+use Rattle.definition.specs.Gate.{changed, step}
 use Rattle.gate.proofs.forget_phone_validation.Statement.{statement}
 use Rattle.gate.proofs.forget_phone_validation.Tie as tie
 
 forget-phone-validation-requires : tie.Need-forget-phone-validation-requires
-forget-phone-validation-requires c κs = search needs
+forget-phone-validation-requires c κs = tt
 
 answered-requires : tie.Need-answered-requires
-answered-requires c κs = search needs
+answered-requires c κs = tt
 
 returns : tie.Need-returns
 unfolding step changed

@@ -1,13 +1,12 @@
-use borrow.Author.Needs.{needs}
-use Rattle.gate.specs.Gate.{changed, step}
+use Rattle.definition.specs.Gate.{changed, step}
 use Rattle.gate.proofs.heard_can_frame.Statement.{statement}
 use Rattle.gate.proofs.heard_can_frame.Tie as tie
 
 heard-can-frame-requires : tie.Need-heard-can-frame-requires
-heard-can-frame-requires c κs = search needs
+heard-can-frame-requires c κs = tt
 
 answered-requires : tie.Need-answered-requires
-answered-requires c κs = search needs
+answered-requires c κs = tt
 
 returns : tie.Need-returns
 unfolding step changed

@@ -1,10 +1,9 @@
-use borrow.Author.Needs.{needs}
-use Rattle.gate.specs.Gate.{step}
+use Rattle.definition.specs.Gate.{step}
 use Rattle.gate.proofs.new_gate.Statement.{statement}
 use Rattle.gate.proofs.new_gate.Tie as tie
 
 new-gate-requires : tie.Need-new-gate-requires
-new-gate-requires c κs = search needs
+new-gate-requires c κs = tt
 
 returns : tie.Need-returns
 unfolding step

@@ -1,13 +1,12 @@
-use borrow.Author.Needs.{needs}
-use Rattle.gate.specs.Gate.{changed, step}
+use Rattle.definition.specs.Gate.{changed, step}
 use Rattle.gate.proofs.note_can_fd_bus.Statement.{statement}
 use Rattle.gate.proofs.note_can_fd_bus.Tie as tie
 
 note-can-fd-bus-requires : tie.Need-note-can-fd-bus-requires
-note-can-fd-bus-requires c κs = search needs
+note-can-fd-bus-requires c κs = tt
 
 answered-requires : tie.Need-answered-requires
-answered-requires c κs = search needs
+answered-requires c κs = tt
 
 returns : tie.Need-returns
 unfolding step changed

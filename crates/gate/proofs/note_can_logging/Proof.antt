@@ -1,13 +1,12 @@
-use borrow.Author.Needs.{needs}
-use Rattle.gate.specs.Gate.{changed, step}
+use Rattle.definition.specs.Gate.{changed, step}
 use Rattle.gate.proofs.note_can_logging.Statement.{statement}
 use Rattle.gate.proofs.note_can_logging.Tie as tie
 
 note-can-logging-requires : tie.Need-note-can-logging-requires
-note-can-logging-requires c κs = search needs
+note-can-logging-requires c κs = tt
 
 answered-requires : tie.Need-answered-requires
-answered-requires c κs = search needs
+answered-requires c κs = tt
 
 returns : tie.Need-returns
 unfolding step changed

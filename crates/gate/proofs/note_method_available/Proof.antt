@@ -1,13 +1,12 @@
-use borrow.Author.Needs.{needs}
-use Rattle.gate.specs.Gate.{changed, step}
+use Rattle.definition.specs.Gate.{changed, step}
 use Rattle.gate.proofs.note_method_available.Statement.{statement}
 use Rattle.gate.proofs.note_method_available.Tie as tie
 
 note-method-available-requires : tie.Need-note-method-available-requires
-note-method-available-requires c κs = search needs
+note-method-available-requires c κs = tt
 
 answered-requires : tie.Need-answered-requires
-answered-requires c κs = search needs
+answered-requires c κs = tt
 
 returns : tie.Need-returns
 unfolding step changed

@@ -1,13 +1,12 @@
-use borrow.Author.Needs.{needs}
-use Rattle.gate.specs.Gate.{changed, step}
+use Rattle.definition.specs.Gate.{changed, step}
 use Rattle.gate.proofs.note_method_can_continue.Statement.{statement}
 use Rattle.gate.proofs.note_method_can_continue.Tie as tie
 
 note-method-can-continue-requires : tie.Need-note-method-can-continue-requires
-note-method-can-continue-requires c κs = search needs
+note-method-can-continue-requires c κs = tt
 
 answered-requires : tie.Need-answered-requires
-answered-requires c κs = search needs
+answered-requires c κs = tt
 
 returns : tie.Need-returns
 unfolding step changed

@@ -1,13 +1,12 @@
-use borrow.Author.Needs.{needs}
-use Rattle.gate.specs.Gate.{changed, step}
+use Rattle.definition.specs.Gate.{changed, step}
 use Rattle.gate.proofs.note_platform_id.Statement.{statement}
 use Rattle.gate.proofs.note_platform_id.Tie as tie
 
 note-platform-id-requires : tie.Need-note-platform-id-requires
-note-platform-id-requires c κs = search needs
+note-platform-id-requires c κs = tt
 
 answered-requires : tie.Need-answered-requires
-answered-requires c κs = search needs
+answered-requires c κs = tt
 
 returns : tie.Need-returns
 unfolding step changed

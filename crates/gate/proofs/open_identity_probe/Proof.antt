@@ -1,13 +1,12 @@
-use borrow.Author.Needs.{needs}
-use Rattle.gate.specs.Gate.{changed, step}
+use Rattle.definition.specs.Gate.{changed, step}
 use Rattle.gate.proofs.open_identity_probe.Statement.{statement}
 use Rattle.gate.proofs.open_identity_probe.Tie as tie
 
 open-identity-probe-requires : tie.Need-open-identity-probe-requires
-open-identity-probe-requires c κs = search needs
+open-identity-probe-requires c κs = tt
 
 answered-requires : tie.Need-answered-requires
-answered-requires c κs = search needs
+answered-requires c κs = tt
 
 returns : tie.Need-returns
 unfolding step changed

@@ -1,13 +1,12 @@
-use borrow.Author.Needs.{needs}
-use Rattle.gate.specs.Gate.{changed, step}
+use Rattle.definition.specs.Gate.{changed, step}
 use Rattle.gate.proofs.remove_paired_phone.Statement.{statement}
 use Rattle.gate.proofs.remove_paired_phone.Tie as tie
 
 remove-paired-phone-requires : tie.Need-remove-paired-phone-requires
-remove-paired-phone-requires c κs = search needs
+remove-paired-phone-requires c κs = tt
 
 answered-requires : tie.Need-answered-requires
-answered-requires c κs = search needs
+answered-requires c κs = tt
 
 returns : tie.Need-returns
 unfolding step changed

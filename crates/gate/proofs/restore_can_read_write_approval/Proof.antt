@@ -1,13 +1,12 @@
-use borrow.Author.Needs.{needs}
-use Rattle.gate.specs.Gate.{changed, step}
+use Rattle.definition.specs.Gate.{changed, step}
 use Rattle.gate.proofs.restore_can_read_write_approval.Statement.{statement}
 use Rattle.gate.proofs.restore_can_read_write_approval.Tie as tie
 
 restore-can-read-write-approval-requires : tie.Need-restore-can-read-write-approval-requires
-restore-can-read-write-approval-requires c κs = search needs
+restore-can-read-write-approval-requires c κs = tt
 
 answered-requires : tie.Need-answered-requires
-answered-requires c κs = search needs
+answered-requires c κs = tt
 
 returns : tie.Need-returns
 unfolding step changed

@@ -1,13 +1,12 @@
-use borrow.Author.Needs.{needs}
-use Rattle.gate.specs.Gate.{changed, step}
+use Rattle.definition.specs.Gate.{changed, step}
 use Rattle.gate.proofs.restore_phone_validations.Statement.{statement}
 use Rattle.gate.proofs.restore_phone_validations.Tie as tie
 
 restore-phone-validations-requires : tie.Need-restore-phone-validations-requires
-restore-phone-validations-requires c κs = search needs
+restore-phone-validations-requires c κs = tt
 
 answered-requires : tie.Need-answered-requires
-answered-requires c κs = search needs
+answered-requires c κs = tt
 
 returns : tie.Need-returns
 unfolding step changed

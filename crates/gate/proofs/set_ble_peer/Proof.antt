@@ -1,13 +1,12 @@
-use borrow.Author.Needs.{needs}
-use Rattle.gate.specs.Gate.{changed, step}
+use Rattle.definition.specs.Gate.{changed, step}
 use Rattle.gate.proofs.set_ble_peer.Statement.{statement}
 use Rattle.gate.proofs.set_ble_peer.Tie as tie
 
 set-ble-peer-requires : tie.Need-set-ble-peer-requires
-set-ble-peer-requires c κs = search needs
+set-ble-peer-requires c κs = tt
 
 answered-requires : tie.Need-answered-requires
-answered-requires c κs = search needs
+answered-requires c κs = tt
 
 returns : tie.Need-returns
 unfolding step changed

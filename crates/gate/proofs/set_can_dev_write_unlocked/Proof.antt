@@ -1,13 +1,12 @@
-use borrow.Author.Needs.{needs}
-use Rattle.gate.specs.Gate.{changed, step}
+use Rattle.definition.specs.Gate.{changed, step}
 use Rattle.gate.proofs.set_can_dev_write_unlocked.Statement.{statement}
 use Rattle.gate.proofs.set_can_dev_write_unlocked.Tie as tie
 
 set-can-dev-write-unlocked-requires : tie.Need-set-can-dev-write-unlocked-requires
-set-can-dev-write-unlocked-requires c κs = search needs
+set-can-dev-write-unlocked-requires c κs = tt
 
 answered-requires : tie.Need-answered-requires
-answered-requires c κs = search needs
+answered-requires c κs = tt
 
 returns : tie.Need-returns
 unfolding step changed

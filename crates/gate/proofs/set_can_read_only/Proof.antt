@@ -1,13 +1,12 @@
-use borrow.Author.Needs.{needs}
-use Rattle.gate.specs.Gate.{changed, step}
+use Rattle.definition.specs.Gate.{changed, step}
 use Rattle.gate.proofs.set_can_read_only.Statement.{statement}
 use Rattle.gate.proofs.set_can_read_only.Tie as tie
 
 set-can-read-only-requires : tie.Need-set-can-read-only-requires
-set-can-read-only-requires c κs = search needs
+set-can-read-only-requires c κs = tt
 
 answered-requires : tie.Need-answered-requires
-answered-requires c κs = search needs
+answered-requires c κs = tt
 
 returns : tie.Need-returns
 unfolding step changed

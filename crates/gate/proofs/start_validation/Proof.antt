@@ -1,28 +1,27 @@
 use Rattle.range.specs.Range as Range
-use borrow.Author.Needs.{needs}
 use Rattle.state.specs.Replies.{leave, fill}
-use Rattle.gate.specs.Gate.{step}
+use Rattle.definition.specs.Gate.{step}
 use Rattle.gate.proofs.start_validation.Statement.{statement}
 use Rattle.gate.proofs.start_validation.Tie as tie
 
 in-range-requires : tie.Need-in-range-requires
-in-range-requires c κs = search needs
+in-range-requires c κs = tt
 
 draw-requires : tie.Need-draw-requires
-draw-requires c κs = search needs
+draw-requires c κs = tt
 
 start-validation-requires : tie.Need-start-validation-requires
-start-validation-requires c κs = search needs
+start-validation-requires c κs = tt
 
 fill-requires : tie.Need-fill-requires
-fill-requires c κs = search needs
+fill-requires c κs = tt
 
 returns : tie.Need-returns
 unfolding step Range.served
 returns c = rw (c .fill .ensures, c .before .start-validation .ensures, c .before .before .before .draw .ensures, ← c .before .before .before .before .before .before .in-range .ensures, c .before .before .before .before .before .if1 .taken)
 
 unserved-requires : tie.Need-unserved-requires
-unserved-requires c κs = search needs
+unserved-requires c κs = tt
 
 returns-2 : tie.Need-returns-2
 unfolding step Range.served leave fill

@@ -1,13 +1,12 @@
-use borrow.Author.Needs.{needs}
-use Rattle.gate.specs.Gate.{changed, step}
+use Rattle.definition.specs.Gate.{changed, step}
 use Rattle.gate.proofs.tick_validation.Statement.{statement}
 use Rattle.gate.proofs.tick_validation.Tie as tie
 
 tick-validation-requires : tie.Need-tick-validation-requires
-tick-validation-requires c κs = search needs
+tick-validation-requires c κs = tt
 
 answered-requires : tie.Need-answered-requires
-answered-requires c κs = search needs
+answered-requires c κs = tt
 
 returns : tie.Need-returns
 unfolding step changed

@@ -1,12 +1,11 @@
-use borrow.Author.Needs.{needs}
 use Rattle.gate.proofs.unserved.Statement.{statement}
 use Rattle.gate.proofs.unserved.Tie as tie
 
 leave-requires : tie.Need-leave-requires
-leave-requires c κs = search needs
+leave-requires c κs = tt
 
 fill-requires : tie.Need-fill-requires
-fill-requires c κs = search needs
+fill-requires c κs = tt
 
 returns : tie.Need-returns
 returns c = rw (c .fill .ensures, c .before .leave .ensures)

@@ -7,28 +7,28 @@ lay-all-requires : tie.Need-lay-all-requires
 lay-all-requires c κs = search needs
 
 numbers-requires : tie.Need-numbers-requires
-numbers-requires c κs = search needs
+numbers-requires c κs = tt
 
 switches-requires : tie.Need-switches-requires
-switches-requires c κs = search needs
+switches-requires c κs = tt
 
 car-of-requires : tie.Need-car-of-requires
-car-of-requires c κs = search needs
+car-of-requires c κs = tt
 
 class-requires : tie.Need-class-requires
-class-requires c κs = search needs
+class-requires c κs = tt
 
 frame-requires : tie.Need-frame-requires
-frame-requires c κs = search needs
+frame-requires c κs = tt
 
 probe-frames-requires : tie.Need-probe-frames-requires
-probe-frames-requires c κs = search needs
+probe-frames-requires c κs = tt
 
 settings-requires : tie.Need-settings-requires
-settings-requires c κs = search needs
+settings-requires c κs = tt
 
 methods-requires : tie.Need-methods-requires
-methods-requires c κs = search needs
+methods-requires c κs = tt
 
 slice-aggregate-is-word : tie.Need-slice-aggregate-is-word
 slice-aggregate-is-word c = search needs
@@ -37,10 +37,10 @@ slice-aggregate-is-word-2 : tie.Need-slice-aggregate-is-word-2
 slice-aggregate-is-word-2 c = search needs
 
 is-word-requires : tie.Need-is-word-requires
-is-word-requires c κs = search needs
+is-word-requires c κs = tt
 
 items-requires : tie.Need-items-requires
-items-requires c κs = search needs
+items-requires c κs = tt
 
 same-length : tie.Need-same-length
 same-length c = c .before .before .before .before .before .before .before .before .before .before .before .before .before .before .before .before .lay-all .kept .1 .0

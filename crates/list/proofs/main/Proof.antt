@@ -16,7 +16,7 @@ slice-aggregate-read-input : tie.Need-slice-aggregate-read-input
 slice-aggregate-read-input c = search needs
 
 read-input-requires : tie.Need-read-input-requires
-read-input-requires c κs = search needs
+read-input-requires c κs = tt
 
 enum-known-n : tie.Need-enum-known-n
 enum-known-n c = search needs
@@ -31,7 +31,7 @@ slice-aggregate-print-listing c =
     sym (length-take-le (n .0 .0) (r .last .0) (inside (r .result) (n .0 .0) _ (n .1) (r .ensures)))
 
 print-listing-requires : tie.Need-print-listing-requires
-print-listing-requires c κs = search needs
+print-listing-requires c κs = tt
 
 enum-told : tie.Need-enum-told
 enum-told c = search needs

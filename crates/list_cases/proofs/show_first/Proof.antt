@@ -11,7 +11,7 @@ slice-aggregate-show : tie.Need-slice-aggregate-show
 slice-aggregate-show c = let a = c .before .before .before .before .args in sym (length-take-le (a .n) (now (a .dst)) (omega arith))
 
 show-requires : tie.Need-show-requires
-show-requires c κs = search needs
+show-requires c κs = tt
 
 returns : tie.Need-returns
 returns c = search needs

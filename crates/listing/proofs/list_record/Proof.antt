@@ -13,20 +13,20 @@ use Rattle.listing.proofs.list_record.Statement.{statement}
 use Rattle.listing.proofs.list_record.Tie as tie
 
 refused-requires : tie.Need-refused-requires
-refused-requires c κs = search needs
+refused-requires c κs = tt
 
 returns : tie.Need-returns
 unfolding listingOf lines
 returns c = rw (lt-ltb 2048 (length (now (c .before .before .before .args .input))) (omega arith)) (c .refused .ensures)
 
 decode-phone-validations-requires : tie.Need-decode-phone-validations-requires
-decode-phone-validations-requires c κs = search needs
+decode-phone-validations-requires c κs = tt
 
 enum-told : tie.Need-enum-told
 enum-told c = search needs
 
 count-requires : tie.Need-count-requires
-count-requires c κs = search needs
+count-requires c κs = tt
 
 accepted-requires : tie.Need-accepted-requires
 accepted-requires c κs =
@@ -37,13 +37,13 @@ enum-told-2 : tie.Need-enum-told-2
 enum-told-2 c = search needs
 
 refused-requires-2 : tie.Need-refused-requires-2
-refused-requires-2 c κs = search needs
+refused-requires-2 c κs = tt
 
 enum-told-3 : tie.Need-enum-told-3
 enum-told-3 c = search needs
 
 refused-requires-3 : tie.Need-refused-requires-3
-refused-requires-3 c κs = search needs
+refused-requires-3 c κs = tt
 
 returns-2 : tie.Need-returns-2
 unfolding listingOf lines

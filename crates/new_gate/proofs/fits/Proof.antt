@@ -1,12 +1,11 @@
-use borrow.Author.Needs.{needs}
 use Rattle.new_gate.proofs.fits.Statement.{statement}
 use Rattle.new_gate.proofs.fits.Tie as tie
 
 settings-fit-requires : tie.Need-settings-fit-requires
-settings-fit-requires c κs = search needs
+settings-fit-requires c κs = tt
 
 methods-fit-requires : tie.Need-methods-fit-requires
-methods-fit-requires c κs = search needs
+methods-fit-requires c κs = tt
 
 returns : tie.Need-returns
 returns c = rw (c .methods-fit .ensures, ← c .before .before .settings-fit .ensures, c .before .if1 .taken)

@@ -1,16 +1,15 @@
 use Rattle.new_gate.specs.New.{newMethods}
-use borrow.Author.Needs.{needs}
 use Rattle.new_gate.proofs.least_gate.Statement.{statement}
 use Rattle.new_gate.proofs.least_gate.Tie as tie
 
 new-methods-requires : tie.Need-new-methods-requires
-new-methods-requires c κs = search needs
+new-methods-requires c κs = tt
 
 new-core-requires : tie.Need-new-core-requires
-new-core-requires c κs = search needs
+new-core-requires c κs = tt
 
 made-gate-requires : tie.Need-made-gate-requires
-made-gate-requires c κs = search needs
+made-gate-requires c κs = tt
 
 returns : tie.Need-returns
 unfolding newMethods

@@ -1,9 +1,8 @@
-use borrow.Author.Needs.{needs}
 use Rattle.new_gate.proofs.made_gate.Statement.{statement}
 use Rattle.new_gate.proofs.made_gate.Tie as tie
 
 no-signals-requires : tie.Need-no-signals-requires
-no-signals-requires c κs = search needs
+no-signals-requires c κs = tt
 
 returns : tie.Need-returns
 returns c = rw (c .no-signals .ensures)

@@ -1,24 +1,23 @@
 use Rattle.arrays.specs.Arrays.{padded}
 use Rattle.phones.specs.Phones.{idOf}
 use Rattle.new_gate.specs.New.{newCore}
-use borrow.Author.Needs.{needs}
 use Rattle.new_gate.proofs.new_core.Statement.{statement}
 use Rattle.new_gate.proofs.new_core.Tie as tie
 
 new-policy-requires : tie.Need-new-policy-requires
-new-policy-requires c κs = search needs
+new-policy-requires c κs = tt
 
 empty-list-requires : tie.Need-empty-list-requires
-empty-list-requires c κs = search needs
+empty-list-requires c κs = tt
 
 no-validations-requires : tie.Need-no-validations-requires
-no-validations-requires c κs = search needs
+no-validations-requires c κs = tt
 
 no-session-requires : tie.Need-no-session-requires
-no-session-requires c κs = search needs
+no-session-requires c κs = tt
 
 new-probe-requires : tie.Need-new-probe-requires
-new-probe-requires c κs = search needs
+new-probe-requires c κs = tt
 
 returns : tie.Need-returns
 unfolding newCore idOf padded

@@ -1,26 +1,25 @@
-use borrow.Author.Needs.{needs}
 use Rattle.new_gate.specs.New.{newGate}
 use Rattle.new_gate.proofs.new_gate.Statement.{statement}
 use Rattle.new_gate.proofs.new_gate.Tie as tie
 
 new-methods-requires : tie.Need-new-methods-requires
-new-methods-requires c κs = search needs
+new-methods-requires c κs = tt
 
 fits-requires : tie.Need-fits-requires
-fits-requires c κs = search needs
+fits-requires c κs = tt
 
 new-core-requires : tie.Need-new-core-requires
-new-core-requires c κs = search needs
+new-core-requires c κs = tt
 
 made-gate-requires : tie.Need-made-gate-requires
-made-gate-requires c κs = search needs
+made-gate-requires c κs = tt
 
 returns : tie.Need-returns
 unfolding newGate
 returns c = rw (c .made-gate .ensures, c .before .new-core .ensures, ← c .before .before .before .before .new-methods .ensures, ← c .before .before .before .fits2 .ensures, c .before .before .if1 .taken)
 
 least-gate-requires : tie.Need-least-gate-requires
-least-gate-requires c κs = search needs
+least-gate-requires c κs = tt
 
 returns-2 : tie.Need-returns-2
 unfolding newGate

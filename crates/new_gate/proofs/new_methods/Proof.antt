@@ -1,10 +1,9 @@
 use Rattle.new_gate.specs.New.{newMethods}
-use borrow.Author.Needs.{needs}
 use Rattle.new_gate.proofs.new_methods.Statement.{statement}
 use Rattle.new_gate.proofs.new_methods.Tie as tie
 
 used-methods-requires : tie.Need-used-methods-requires
-used-methods-requires c κs = search needs
+used-methods-requires c κs = tt
 
 returns : tie.Need-returns
 unfolding newMethods

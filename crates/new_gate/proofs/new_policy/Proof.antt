@@ -1,9 +1,8 @@
-use borrow.Author.Needs.{needs}
 use Rattle.new_gate.proofs.new_policy.Statement.{statement}
 use Rattle.new_gate.proofs.new_policy.Tie as tie
 
 no-car-requires : tie.Need-no-car-requires
-no-car-requires c κs = search needs
+no-car-requires c κs = tt
 
 returns : tie.Need-returns
 returns c = rw (c .no-car .ensures)

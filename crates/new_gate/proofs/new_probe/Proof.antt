@@ -1,9 +1,8 @@
-use borrow.Author.Needs.{needs}
 use Rattle.new_gate.proofs.new_probe.Statement.{statement}
 use Rattle.new_gate.proofs.new_probe.Tie as tie
 
 no-window-requires : tie.Need-no-window-requires
-no-window-requires c κs = search needs
+no-window-requires c κs = tt
 
 returns : tie.Need-returns
 returns c = rw (c .no-window .ensures)

@@ -17,7 +17,7 @@ abbrev μ-loop : tie.MeasureT-loop
 μ-loop count list kept₀ i₀ kept i = 8 - i
 
 no-method-requires : tie.Need-no-method-requires Inv-loop μ-loop
-no-method-requires c κs = search needs
+no-method-requires c κs = tt
 
 loop-holds : tie.Need-loop-holds Inv-loop μ-loop
 unfolding padded

@@ -1,55 +1,54 @@
 use Rattle.pairing.specs.Pairing.{pair}
 use Rattle.pairing.proofs.Laws.{made-fits, made-long, made-bytes}
 use borrow.Author.Tests.{eq-eqb, ne-eqb, lt-ltb, le-ltb}
-use borrow.Author.Needs.{needs}
 use Rattle.pairing.proofs.add_paired_phone.Statement.{statement}
 use Rattle.pairing.proofs.add_paired_phone.Tie as tie
 
 make-id-requires : tie.Need-make-id-requires
-make-id-requires c κs = search needs
+make-id-requires c κs = tt
 
 leave-requires : tie.Need-leave-requires
-leave-requires c κs = search needs
+leave-requires c κs = tt
 
 returns : tie.Need-returns
 unfolding pair
 returns c = rw (c .leave .ensures, made-fits _ _ (c .before .before .before .make-id .ensures) (c .before .before .if1 .taken), eq-eqb _ _ (c .before .if2 .taken))
 
 is-paired-requires : tie.Need-is-paired-requires
-is-paired-requires c κs = search needs
+is-paired-requires c κs = tt
 
 told-requires : tie.Need-told-requires
-told-requires c κs = search needs
+told-requires c κs = tt
 
 returns-2 : tie.Need-returns-2
 unfolding pair
 returns-2 c = rw (c .told .ensures, made-fits _ _ (c .before .before .before .before .before .make-id .ensures) (c .before .before .before .before .if1 .taken), ne-eqb _ _ (c .before .before .before .if2 .left), ← c .before .before .is-paired .ensures, c .before .if3 .taken)
 
 count-requires : tie.Need-count-requires
-count-requires c κs = search needs
+count-requires c κs = tt
 
 append-requires : tie.Need-append-requires
-append-requires c κs = search needs
+append-requires c κs = tt
 
 with-paired-requires : tie.Need-with-paired-requires
-with-paired-requires c κs = search needs
+with-paired-requires c κs = tt
 
 told-requires-2 : tie.Need-told-requires-2
-told-requires-2 c κs = search needs
+told-requires-2 c κs = tt
 
 returns-3 : tie.Need-returns-3
 unfolding pair
 returns-3 c = rw (c .told2 .ensures, c .before .with-paired .ensures, c .before .before .append .ensures, made-bytes _ _ (c .before .before .before .before .before .before .before .before .before .before .before .before .make-id .ensures) (c .before .before .before .before .before .before .before .before .before .before .before .if1 .taken), made-fits _ _ (c .before .before .before .before .before .before .before .before .before .before .before .before .make-id .ensures) (c .before .before .before .before .before .before .before .before .before .before .before .if1 .taken), ne-eqb _ _ (c .before .before .before .before .before .before .before .before .before .before .if2 .left), ← c .before .before .before .before .before .before .before .before .before .is-paired .ensures, c .before .before .before .before .before .before .before .before .if3 .left, ← c .before .before .before .before .before .before .count .ensures, lt-ltb _ _ (c .before .before .before .before .if4 .taken))
 
 told-requires-3 : tie.Need-told-requires-3
-told-requires-3 c κs = search needs
+told-requires-3 c κs = tt
 
 returns-4 : tie.Need-returns-4
 unfolding pair
 returns-4 c = rw (c .told3 .ensures, made-fits _ _ (c .before .before .before .before .before .before .before .before .before .make-id .ensures) (c .before .before .before .before .before .before .before .before .if1 .taken), ne-eqb _ _ (c .before .before .before .before .before .before .before .if2 .left), ← c .before .before .before .before .before .before .is-paired .ensures, c .before .before .before .before .before .if3 .left, ← c .before .before .before .count .ensures, le-ltb _ _ (c .before .if4 .left))
 
 leave-requires-2 : tie.Need-leave-requires-2
-leave-requires-2 c κs = search needs
+leave-requires-2 c κs = tt
 
 returns-5 : tie.Need-returns-5
 unfolding pair

@@ -1,36 +1,35 @@
 use Rattle.pairing.specs.Pairing.{clear}
 use borrow.Author.Tests.{lt-ltb, le-ltb}
-use borrow.Author.Needs.{needs}
 use Rattle.pairing.proofs.clear_paired_phones.Statement.{statement}
 use Rattle.pairing.proofs.clear_paired_phones.Tie as tie
 
 count-requires : tie.Need-count-requires
-count-requires c κs = search needs
+count-requires c κs = tt
 
 empty-list-requires : tie.Need-empty-list-requires
-empty-list-requires c κs = search needs
+empty-list-requires c κs = tt
 
 with-paired-requires : tie.Need-with-paired-requires
-with-paired-requires c κs = search needs
+with-paired-requires c κs = tt
 
 no-validations-requires : tie.Need-no-validations-requires
-no-validations-requires c κs = search needs
+no-validations-requires c κs = tt
 
 count-requires-2 : tie.Need-count-requires-2
-count-requires-2 c κs = search needs
+count-requires-2 c κs = tt
 
 stored-requires : tie.Need-stored-requires
-stored-requires c κs = search needs
+stored-requires c κs = tt
 
 returns : tie.Need-returns
 unfolding clear
 returns c = rw (c .stored .ensures, c .before .before .before .no-validations .ensures, c .before .before .before .before .with-paired .ensures, c .before .before .before .before .before .empty-list .ensures, c .before .before .before .before .before .before .before .count .ensures, ← c .before .before .count2 .ensures, lt-ltb _ _ (c .before .if1 .taken))
 
 with-validations-requires : tie.Need-with-validations-requires
-with-validations-requires c κs = search needs
+with-validations-requires c κs = tt
 
 leave-requires : tie.Need-leave-requires
-leave-requires c κs = search needs
+leave-requires c κs = tt
 
 returns-2 : tie.Need-returns-2
 unfolding clear

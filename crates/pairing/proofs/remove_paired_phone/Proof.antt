@@ -1,26 +1,25 @@
 use Rattle.pairing.specs.Pairing.{unpair}
-use borrow.Author.Needs.{needs}
 use Rattle.pairing.proofs.remove_paired_phone.Statement.{statement}
 use Rattle.pairing.proofs.remove_paired_phone.Tie as tie
 
 is-paired-requires : tie.Need-is-paired-requires
-is-paired-requires c κs = search needs
+is-paired-requires c κs = tt
 
 remove-first-requires : tie.Need-remove-first-requires
-remove-first-requires c κs = search needs
+remove-first-requires c κs = tt
 
 with-paired-requires : tie.Need-with-paired-requires
-with-paired-requires c κs = search needs
+with-paired-requires c κs = tt
 
 forgetting-requires : tie.Need-forgetting-requires
-forgetting-requires c κs = search needs
+forgetting-requires c κs = tt
 
 returns : tie.Need-returns
 unfolding unpair
 returns c = rw (c .forgetting .ensures, c .before .with-paired .ensures, c .before .before .remove-first .ensures, ← c .before .before .before .before .before .is-paired .ensures, c .before .before .before .before .if1 .taken)
 
 forgetting-requires-2 : tie.Need-forgetting-requires-2
-forgetting-requires-2 c κs = search needs
+forgetting-requires-2 c κs = tt
 
 returns-2 : tie.Need-returns-2
 unfolding unpair

@@ -1,34 +1,33 @@
 use Rattle.pairing.specs.Pairing.{setPeer}
 use Rattle.pairing.proofs.Laws.{made-fits, made-long, made-id}
-use borrow.Author.Needs.{needs}
 use Rattle.pairing.proofs.set_ble_peer.Statement.{statement}
 use Rattle.pairing.proofs.set_ble_peer.Tie as tie
 
 make-id-requires : tie.Need-make-id-requires
-make-id-requires c κs = search needs
+make-id-requires c κs = tt
 
 with-peer-requires : tie.Need-with-peer-requires
-with-peer-requires c κs = search needs
+with-peer-requires c κs = tt
 
 id-is-requires : tie.Need-id-is-requires
-id-is-requires c κs = search needs
+id-is-requires c κs = tt
 
 leave-requires : tie.Need-leave-requires
-leave-requires c κs = search needs
+leave-requires c κs = tt
 
 returns : tie.Need-returns
 unfolding setPeer
 returns c = rw (c .leave .ensures, c .before .before .before .with-peer .ensures, made-id _ _ (c .before .before .before .before .before .before .before .make-id .ensures) (c .before .before .before .before .before .before .if1 .taken), made-fits _ _ (c .before .before .before .before .before .before .before .make-id .ensures) (c .before .before .before .before .before .before .if1 .taken), ← c .before .before .id-is .ensures, c .before .if2 .taken)
 
 told-requires : tie.Need-told-requires
-told-requires c κs = search needs
+told-requires c κs = tt
 
 returns-2 : tie.Need-returns-2
 unfolding setPeer
 returns-2 c = rw (c .told .ensures, c .before .before .before .with-peer .ensures, made-id _ _ (c .before .before .before .before .before .before .before .make-id .ensures) (c .before .before .before .before .before .before .if1 .taken), made-fits _ _ (c .before .before .before .before .before .before .before .make-id .ensures) (c .before .before .before .before .before .before .if1 .taken), ← c .before .before .id-is .ensures, c .before .if2 .left)
 
 leave-requires-2 : tie.Need-leave-requires-2
-leave-requires-2 c κs = search needs
+leave-requires-2 c κs = tt
 
 returns-3 : tie.Need-returns-3
 unfolding setPeer

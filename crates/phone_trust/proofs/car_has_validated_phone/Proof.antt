@@ -1,13 +1,12 @@
 use Rattle.phone_trust.specs.Trust.{carHasValidated}
-use borrow.Author.Needs.{needs}
 use Rattle.phone_trust.proofs.car_has_validated_phone.Statement.{statement}
 use Rattle.phone_trust.proofs.car_has_validated_phone.Tie as tie
 
 of-this-car-requires : tie.Need-of-this-car-requires
-of-this-car-requires c κs = search needs
+of-this-car-requires c κs = tt
 
 any-in-requires : tie.Need-any-in-requires
-any-in-requires c κs = search needs
+any-in-requires c κs = tt
 
 returns : tie.Need-returns
 unfolding carHasValidated

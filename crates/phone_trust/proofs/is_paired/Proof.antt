@@ -4,7 +4,7 @@ use Rattle.phone_trust.proofs.is_paired.Statement.{statement}
 use Rattle.phone_trust.proofs.is_paired.Tie as tie
 
 contains-requires : tie.Need-contains-requires
-contains-requires c κs = search needs
+contains-requires c κs = tt
 
 returns : tie.Need-returns
 unfolding isPaired

@@ -1,21 +1,20 @@
 use Rattle.phone_trust.specs.Trust.{isValidated}
 use borrow.Author.Tests.{eq-eqb, ne-eqb}
-use borrow.Author.Needs.{needs}
 use Rattle.phone_trust.proofs.is_phone_validated.Statement.{statement}
 use Rattle.phone_trust.proofs.is_phone_validated.Tie as tie
 
 of-this-car-requires : tie.Need-of-this-car-requires
-of-this-car-requires c κs = search needs
+of-this-car-requires c κs = tt
 
 returns : tie.Need-returns
 unfolding isValidated
 returns c = rw (← c .before .before .of-this-car .ensures, c .before .if1 .taken, eq-eqb _ _ (c .if2 .taken))
 
 is-paired-requires : tie.Need-is-paired-requires
-is-paired-requires c κs = search needs
+is-paired-requires c κs = tt
 
 contains-requires : tie.Need-contains-requires
-contains-requires c κs = search needs
+contains-requires c κs = tt
 
 returns-2 : tie.Need-returns-2
 unfolding isValidated

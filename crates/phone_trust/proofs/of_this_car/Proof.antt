@@ -4,7 +4,7 @@ use Rattle.phone_trust.proofs.of_this_car.Statement.{statement}
 use Rattle.phone_trust.proofs.of_this_car.Tie as tie
 
 is-identified-requires : tie.Need-is-identified-requires
-is-identified-requires c κs = search needs
+is-identified-requires c κs = tt
 
 returns : tie.Need-returns
 unfolding ofThisCar

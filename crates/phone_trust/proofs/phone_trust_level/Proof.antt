@@ -1,13 +1,12 @@
 use Rattle.phone_trust.specs.Trust.{trustOf}
-use borrow.Author.Needs.{needs}
 use Rattle.phone_trust.proofs.phone_trust_level.Statement.{statement}
 use Rattle.phone_trust.proofs.phone_trust_level.Tie as tie
 
 is-paired-requires : tie.Need-is-paired-requires
-is-paired-requires c κs = search needs
+is-paired-requires c κs = tt
 
 is-phone-validated-requires : tie.Need-is-phone-validated-requires
-is-phone-validated-requires c κs = search needs
+is-phone-validated-requires c κs = tt
 
 returns : tie.Need-returns
 unfolding trustOf

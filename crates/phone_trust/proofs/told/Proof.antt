@@ -1,13 +1,12 @@
 use Rattle.phone_trust.specs.Trust.{told}
-use borrow.Author.Needs.{needs}
 use Rattle.phone_trust.proofs.told.Statement.{statement}
 use Rattle.phone_trust.proofs.told.Tie as tie
 
 phone-access-changed-requires : tie.Need-phone-access-changed-requires
-phone-access-changed-requires c κs = search needs
+phone-access-changed-requires c κs = tt
 
 reply-requires : tie.Need-reply-requires
-reply-requires c κs = search needs
+reply-requires c κs = tt
 
 returns : tie.Need-returns
 unfolding told

@@ -19,7 +19,7 @@ abbrev μ-loop : tie.MeasureT-loop
 μ-loop other l n i₀ i = n - i
 
 clamp-requires : tie.Need-clamp-requires Inv-loop μ-loop
-clamp-requires c κs = search needs
+clamp-requires c κs = tt
 
 loop-holds : tie.Need-loop-holds Inv-loop μ-loop
 loop-holds c =
@@ -33,7 +33,7 @@ element-copy-out-p : tie.Need-element-copy-out-p Inv-loop μ-loop
 element-copy-out-p c = omega arith
 
 contains-id-requires : tie.Need-contains-id-requires Inv-loop μ-loop
-contains-id-requires c κs = search needs
+contains-id-requires c κs = tt
 
 returns : tie.Need-returns Inv-loop μ-loop
 unfolding anyIn

@@ -19,10 +19,10 @@ abbrev μ-loop : tie.MeasureT-loop
 μ-loop l n out₀ i₀ out i = n - i
 
 clamp-requires : tie.Need-clamp-requires Inv-loop μ-loop
-clamp-requires c κs = search needs
+clamp-requires c κs = tt
 
 empty-list-requires : tie.Need-empty-list-requires Inv-loop μ-loop
-empty-list-requires c κs = search needs
+empty-list-requires c κs = tt
 
 loop-holds : tie.Need-loop-holds Inv-loop μ-loop
 loop-holds c =
@@ -36,7 +36,7 @@ element-copy-out-p : tie.Need-element-copy-out-p Inv-loop μ-loop
 element-copy-out-p c = omega arith
 
 clean-requires : tie.Need-clean-requires Inv-loop μ-loop
-clean-requires c κs = search needs
+clean-requires c κs = tt
 
 mul-q : tie.Need-mul-q Inv-loop μ-loop
 mul-q c = omega arith

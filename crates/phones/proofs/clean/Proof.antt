@@ -12,7 +12,7 @@ use Rattle.phones.proofs.clean.Statement.{statement}
 use Rattle.phones.proofs.clean.Tie as tie
 
 clamp-requires : tie.Need-clamp-requires
-clamp-requires c κs = search needs
+clamp-requires c κs = tt
 
 slice-aggregate-put : tie.Need-slice-aggregate-put
 slice-aggregate-put c = search needs

@@ -20,7 +20,7 @@ abbrev μ-loop : tie.MeasureT-loop
 μ-loop s l n at₀ at = n - at
 
 clamp-requires : tie.Need-clamp-requires Inv-loop μ-loop
-clamp-requires c κs = search needs
+clamp-requires c κs = tt
 
 loop-holds : tie.Need-loop-holds Inv-loop μ-loop
 loop-holds c =
@@ -34,7 +34,7 @@ element-copy-out-p : tie.Need-element-copy-out-p Inv-loop μ-loop
 element-copy-out-p c = omega arith
 
 id-is-requires : tie.Need-id-is-requires Inv-loop μ-loop
-id-is-requires c κs = search needs
+id-is-requires c κs = tt
 
 returns : tie.Need-returns Inv-loop μ-loop
 unfolding contains

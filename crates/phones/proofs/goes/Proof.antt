@@ -7,7 +7,7 @@ returns : tie.Need-returns
 returns c = search needs
 
 id-is-requires : tie.Need-id-is-requires
-id-is-requires c κs = search needs
+id-is-requires c κs = tt
 
 returns-2 : tie.Need-returns-2
 returns-2 c = rw (c .before .if1 .left) (c .id-is .ensures)

@@ -13,7 +13,7 @@ use Rattle.phones.proofs.phone_at.Statement.{statement}
 use Rattle.phones.proofs.phone_at.Tie as tie
 
 clamp-requires : tie.Need-clamp-requires
-clamp-requires c κs = search needs
+clamp-requires c κs = tt
 
 mul-p : tie.Need-mul-p
 mul-p c = search needs
@@ -22,7 +22,7 @@ element-copy-out-p : tie.Need-element-copy-out-p
 element-copy-out-p c = search needs
 
 clean-requires : tie.Need-clean-requires
-clean-requires c κs = search needs
+clean-requires c κs = tt
 
 returns : tie.Need-returns
 returns c =

@@ -21,10 +21,10 @@ abbrev μ-loop : tie.MeasureT-loop
 μ-loop s once l n out₀ done₀ i₀ out done i = n - i
 
 clamp-requires : tie.Need-clamp-requires Inv-loop μ-loop
-clamp-requires c κs = search needs
+clamp-requires c κs = tt
 
 empty-list-requires : tie.Need-empty-list-requires Inv-loop μ-loop
-empty-list-requires c κs = search needs
+empty-list-requires c κs = tt
 
 loop-holds : tie.Need-loop-holds Inv-loop μ-loop
 loop-holds c =
@@ -51,7 +51,7 @@ add-i : tie.Need-add-i Inv-loop μ-loop
 add-i c = omega arith
 
 goes-requires : tie.Need-goes-requires Inv-loop μ-loop
-goes-requires c κs = search needs
+goes-requires c κs = tt
 
 loop-less : tie.Need-loop-less Inv-loop μ-loop
 loop-less c = omega arith
@@ -71,7 +71,7 @@ loop-again c =
     )
 
 clean-requires : tie.Need-clean-requires Inv-loop μ-loop
-clean-requires c κs = search needs
+clean-requires c κs = tt
 
 mul-q : tie.Need-mul-q Inv-loop μ-loop
 mul-q c = omega arith

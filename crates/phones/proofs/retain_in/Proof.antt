@@ -20,10 +20,10 @@ abbrev μ-loop : tie.MeasureT-loop
 μ-loop other l n out₀ i₀ out i = n - i
 
 clamp-requires : tie.Need-clamp-requires Inv-loop μ-loop
-clamp-requires c κs = search needs
+clamp-requires c κs = tt
 
 empty-list-requires : tie.Need-empty-list-requires Inv-loop μ-loop
-empty-list-requires c κs = search needs
+empty-list-requires c κs = tt
 
 loop-holds : tie.Need-loop-holds Inv-loop μ-loop
 unfolding retainIn kept
@@ -42,10 +42,10 @@ add-i : tie.Need-add-i Inv-loop μ-loop
 add-i c = omega arith
 
 contains-id-requires : tie.Need-contains-id-requires Inv-loop μ-loop
-contains-id-requires c κs = search needs
+contains-id-requires c κs = tt
 
 clean-requires : tie.Need-clean-requires Inv-loop μ-loop
-clean-requires c κs = search needs
+clean-requires c κs = tt
 
 mul-q : tie.Need-mul-q Inv-loop μ-loop
 mul-q c = omega arith

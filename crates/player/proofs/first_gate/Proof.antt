@@ -1,14 +1,13 @@
 use mathlib.Core.Path.{ap, _∙_}
-use borrow.Author.Needs.{needs}
-use Rattle.gate.specs.Gate.{Given}
+use Rattle.definition.specs.Gate.{Given}
 use Rattle.player.proofs.first_gate.Statement.{statement}
 use Rattle.player.proofs.first_gate.Tie as tie
 
 no-method-requires : tie.Need-no-method-requires
-no-method-requires c κs = search needs
+no-method-requires c κs = tt
 
 new-gate-requires : tie.Need-new-gate-requires
-new-gate-requires c κs = search needs
+new-gate-requires c κs = tt
 
 returns : tie.Need-returns
 returns c = λ g. ap (λ (d : Given). d .gate) (c .before .new-gate .ensures g) ∙ rw (c .before .before .no-method .ensures)

@@ -12,10 +12,10 @@ slice-aggregate-put-begin : tie.Need-slice-aggregate-put-begin
 slice-aggregate-put-begin c = search needs
 
 put-begin-requires : tie.Need-put-begin-requires
-put-begin-requires c κs = search needs
+put-begin-requires c κs = tt
 
 put-gate-requires : tie.Need-put-gate-requires
-put-gate-requires c κs = search needs
+put-gate-requires c κs = tt
 
 put-end-requires : tie.Need-put-end-requires
 put-end-requires c κs = search needs

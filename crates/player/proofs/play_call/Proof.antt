@@ -4,7 +4,7 @@ use Rattle.player.proofs.play_call.Statement.{statement}
 use Rattle.player.proofs.play_call.Tie as tie
 
 put-begin-requires : tie.Need-put-begin-requires
-put-begin-requires c κs = search needs
+put-begin-requires c κs = tt
 
 run-requires : tie.Need-run-requires
 run-requires c κs = search needs

@@ -8,13 +8,13 @@ slice-aggregate-put-item : tie.Need-slice-aggregate-put-item
 slice-aggregate-put-item c = search needs
 
 put-item-requires : tie.Need-put-item-requires
-put-item-requires c κs = search needs
+put-item-requires c κs = tt
 
 put-error-requires : tie.Need-put-error-requires
-put-error-requires c κs = search needs
+put-error-requires c κs = tt
 
 not-called-requires : tie.Need-not-called-requires
-not-called-requires c κs = search needs
+not-called-requires c κs = tt
 
 put-end-requires : tie.Need-put-end-requires
 put-end-requires c κs = search needs

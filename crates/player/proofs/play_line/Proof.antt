@@ -6,25 +6,25 @@ use Rattle.player.proofs.play_line.Statement.{statement}
 use Rattle.player.proofs.play_line.Tie as tie
 
 name-end-requires : tie.Need-name-end-requires
-name-end-requires c κs = search needs
+name-end-requires c κs = tt
 
 slice-aggregate-name-of : tie.Need-slice-aggregate-name-of
 slice-aggregate-name-of c = word-length (now (c .before .before .before .before .before .args .line)) _ (c .before .name-end .ensures)
 
 name-of-requires : tie.Need-name-of-requires
-name-of-requires c κs = search needs
+name-of-requires c κs = tt
 
 read-requires : tie.Need-read-requires
 read-requires c κs = search needs
 
 takes-requires : tie.Need-takes-requires
-takes-requires c κs = search needs
+takes-requires c κs = tt
 
 slice-aggregate-play-call : tie.Need-slice-aggregate-play-call
 slice-aggregate-play-call c = word-length (now (c .before .before .before .before .before .before .before .before .before .before .before .before .before .before .before .args .line)) _ (c .before .before .before .before .before .before .before .before .before .before .before .name-end .ensures)
 
 play-call-requires : tie.Need-play-call-requires
-play-call-requires c κs = search needs
+play-call-requires c κs = tt
 
 same-length : tie.Need-same-length
 same-length c = c .before .before .before .before .before .before .before .before .before .before .before .before .read .kept .1 .0
@@ -40,7 +40,7 @@ returns c =
     (c .before .before .play-call .ensures ∙ t, r .memory)
 
 play-error-requires : tie.Need-play-error-requires
-play-error-requires c κs = search needs
+play-error-requires c κs = tt
 
 same-length-3 : tie.Need-same-length-3
 same-length-3 c = c .before .before .before .before .before .before .before .before .before .before .read .kept .1 .0

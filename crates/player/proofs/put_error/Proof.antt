@@ -5,7 +5,7 @@ use Rattle.player.proofs.put_error.Statement.{statement}
 use Rattle.player.proofs.put_error.Tie as tie
 
 is-known-requires : tie.Need-is-known-requires
-is-known-requires c κs = search needs
+is-known-requires c κs = tt
 
 slice-aggregate-put-text : tie.Need-slice-aggregate-put-text
 slice-aggregate-put-text c = search needs

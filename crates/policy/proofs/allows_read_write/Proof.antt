@@ -1,13 +1,12 @@
 use Rattle.policy.specs.Policy.{allowsReadWrite}
-use borrow.Author.Needs.{needs}
 use Rattle.policy.proofs.allows_read_write.Statement.{statement}
 use Rattle.policy.proofs.allows_read_write.Tie as tie
 
 is-car-fingerprint-confirmed-requires : tie.Need-is-car-fingerprint-confirmed-requires
-is-car-fingerprint-confirmed-requires c κs = search needs
+is-car-fingerprint-confirmed-requires c κs = tt
 
 approved-car-requires : tie.Need-approved-car-requires
-approved-car-requires c κs = search needs
+approved-car-requires c κs = tt
 
 returns : tie.Need-returns
 unfolding allowsReadWrite

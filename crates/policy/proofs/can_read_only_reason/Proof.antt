@@ -1,23 +1,22 @@
 use Rattle.policy.specs.Policy.{reason}
-use borrow.Author.Needs.{needs}
 use Rattle.policy.proofs.can_read_only_reason.Statement.{statement}
 use Rattle.policy.proofs.can_read_only_reason.Tie as tie
 
 is-can-read-only-requires : tie.Need-is-can-read-only-requires
-is-can-read-only-requires c κs = search needs
+is-can-read-only-requires c κs = tt
 
 returns : tie.Need-returns
 unfolding reason
 returns c = rw (← c .before .before .is-can-read-only .ensures, c .before .if1 .taken, c .if2 .taken)
 
 is-car-fingerprint-confirmed-requires : tie.Need-is-car-fingerprint-confirmed-requires
-is-car-fingerprint-confirmed-requires c κs = search needs
+is-car-fingerprint-confirmed-requires c κs = tt
 
 can-read-write-approval-requires : tie.Need-can-read-write-approval-requires
-can-read-write-approval-requires c κs = search needs
+can-read-write-approval-requires c κs = tt
 
 approval-reason-requires : tie.Need-approval-reason-requires
-approval-reason-requires c κs = search needs
+approval-reason-requires c κs = tt
 
 returns-2 : tie.Need-returns-2
 unfolding reason

@@ -1,17 +1,16 @@
 use Rattle.policy.specs.Policy.{isBusReadOnly}
-use borrow.Author.Needs.{needs}
 use Rattle.policy.proofs.is_can_bus_read_only.Statement.{statement}
 use Rattle.policy.proofs.is_can_bus_read_only.Tie as tie
 
 is-can-read-only-requires : tie.Need-is-can-read-only-requires
-is-can-read-only-requires c κs = search needs
+is-can-read-only-requires c κs = tt
 
 returns : tie.Need-returns
 unfolding isBusReadOnly
 returns c = rw (← c .before .is-can-read-only .ensures, c .if1 .taken)
 
 is-can-fd-bus-requires : tie.Need-is-can-fd-bus-requires
-is-can-fd-bus-requires c κs = search needs
+is-can-fd-bus-requires c κs = tt
 
 returns-2 : tie.Need-returns-2
 unfolding isBusReadOnly

@@ -1,5 +1,4 @@
 use Rattle.policy.specs.Policy.{isReadOnly}
-use borrow.Author.Needs.{needs}
 use Rattle.policy.proofs.is_can_read_only.Statement.{statement}
 use Rattle.policy.proofs.is_can_read_only.Tie as tie
 
@@ -12,7 +11,7 @@ unfolding isReadOnly
 returns-2 c = rw (c .before .if1 .left, c .if2 .taken)
 
 allows-read-write-requires : tie.Need-allows-read-write-requires
-allows-read-write-requires c κs = search needs
+allows-read-write-requires c κs = tt
 
 returns-3 : tie.Need-returns-3
 unfolding isReadOnly

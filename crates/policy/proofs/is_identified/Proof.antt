@@ -4,7 +4,7 @@ use Rattle.policy.proofs.is_identified.Statement.{statement}
 use Rattle.policy.proofs.is_identified.Tie as tie
 
 is-car-fingerprint-confirmed-requires : tie.Need-is-car-fingerprint-confirmed-requires
-is-car-fingerprint-confirmed-requires c κs = search needs
+is-car-fingerprint-confirmed-requires c κs = tt
 
 slice-aggregate-same-bytes : tie.Need-slice-aggregate-same-bytes
 slice-aggregate-same-bytes c = search needs
@@ -13,7 +13,7 @@ slice-aggregate-same-bytes-2 : tie.Need-slice-aggregate-same-bytes-2
 slice-aggregate-same-bytes-2 c = search needs
 
 same-bytes-requires : tie.Need-same-bytes-requires
-same-bytes-requires c κs = search needs
+same-bytes-requires c κs = tt
 
 returns : tie.Need-returns
 unfolding isIdentified

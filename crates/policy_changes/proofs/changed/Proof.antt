@@ -1,19 +1,18 @@
 use Rattle.policy_changes.specs.Changes.{changed}
-use borrow.Author.Needs.{needs}
 use Rattle.policy_changes.proofs.changed.Statement.{statement}
 use Rattle.policy_changes.proofs.changed.Tie as tie
 
 is-can-read-only-requires : tie.Need-is-can-read-only-requires
-is-can-read-only-requires c κs = search needs
+is-can-read-only-requires c κs = tt
 
 read-only-changed-requires : tie.Need-read-only-changed-requires
-read-only-changed-requires c κs = search needs
+read-only-changed-requires c κs = tt
 
 with-policy-requires : tie.Need-with-policy-requires
-with-policy-requires c κs = search needs
+with-policy-requires c κs = tt
 
 reply-requires : tie.Need-reply-requires
-reply-requires c κs = search needs
+reply-requires c κs = tt
 
 returns : tie.Need-returns
 unfolding changed

@@ -17,7 +17,7 @@ abbrev μ-loop : tie.MeasureT-loop
 μ-loop count lent out₀ i₀ out i = 4 - i
 
 no-frame-requires : tie.Need-no-frame-requires Inv-loop μ-loop
-no-frame-requires c κs = search needs
+no-frame-requires c κs = tt
 
 loop-holds : tie.Need-loop-holds Inv-loop μ-loop
 unfolding padded

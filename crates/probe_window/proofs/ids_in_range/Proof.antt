@@ -34,7 +34,7 @@ array-copy-out-f : tie.Need-array-copy-out-f Inv-loop μ-loop
 array-copy-out-f c = omega arith
 
 id-in-range-requires : tie.Need-id-in-range-requires Inv-loop μ-loop
-id-in-range-requires c κs = search needs
+id-in-range-requires c κs = tt
 
 add-i : tie.Need-add-i Inv-loop μ-loop
 add-i c = omega arith

@@ -1,5 +1,4 @@
 use Rattle.probe_window.specs.Window.{isAwake}
-use borrow.Author.Needs.{needs}
 use borrow.Author.Tests.{eq-eqb, ne-eqb}
 use Rattle.probe_window.proofs.is_awake.Statement.{statement}
 use Rattle.probe_window.proofs.is_awake.Tie as tie
@@ -9,7 +8,7 @@ unfolding isAwake
 returns c = rw (eq-eqb _ _ (c .if1 .taken))
 
 since-mark-requires : tie.Need-since-mark-requires
-since-mark-requires c κs = search needs
+since-mark-requires c κs = tt
 
 returns-2 : tie.Need-returns-2
 unfolding isAwake

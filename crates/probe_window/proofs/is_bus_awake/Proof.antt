@@ -7,7 +7,7 @@ use Rattle.probe_window.proofs.is_bus_awake.Statement.{statement}
 use Rattle.probe_window.proofs.is_bus_awake.Tie as tie
 
 bus-exists-requires : tie.Need-bus-exists-requires
-bus-exists-requires c κs = search needs
+bus-exists-requires c κs = tt
 
 mul-mark : tie.Need-mul-mark
 mul-mark c = search needs
@@ -18,7 +18,7 @@ array-read-mark c =
     search needs
 
 is-awake-requires : tie.Need-is-awake-requires
-is-awake-requires c κs = search needs
+is-awake-requires c κs = tt
 
 returns : tie.Need-returns
 unfolding isBusAwake

@@ -1,13 +1,12 @@
 use Rattle.probe_window.specs.Window.{isListenOnly}
-use borrow.Author.Needs.{needs}
 use Rattle.probe_window.proofs.is_can_bus_listen_only.Statement.{statement}
 use Rattle.probe_window.proofs.is_can_bus_listen_only.Tie as tie
 
 is-can-bus-read-only-requires : tie.Need-is-can-bus-read-only-requires
-is-can-bus-read-only-requires c κs = search needs
+is-can-bus-read-only-requires c κs = tt
 
 is-open-requires : tie.Need-is-open-requires
-is-open-requires c κs = search needs
+is-open-requires c κs = tt
 
 returns : tie.Need-returns
 unfolding isListenOnly

@@ -1,18 +1,17 @@
 use Rattle.probe_window.specs.Window.{isOpen}
-use borrow.Author.Needs.{needs}
 use borrow.Author.Tests.{eq-eqb, ne-eqb}
 use Rattle.probe_window.proofs.is_open.Statement.{statement}
 use Rattle.probe_window.proofs.is_open.Tie as tie
 
 is-probe-needed-requires : tie.Need-is-probe-needed-requires
-is-probe-needed-requires c κs = search needs
+is-probe-needed-requires c κs = tt
 
 returns : tie.Need-returns
 unfolding isOpen
 returns c = rw (← c .before .before .is-probe-needed .ensures, c .before .before .before .if1 .taken, c .before .if2 .taken, c .if3 .taken)
 
 is-within-time-requires : tie.Need-is-within-time-requires
-is-within-time-requires c κs = search needs
+is-within-time-requires c κs = tt
 
 returns-2 : tie.Need-returns-2
 unfolding isOpen

@@ -1,10 +1,9 @@
 use Rattle.probe_window.specs.Window.{probeNeeded}
-use borrow.Author.Needs.{needs}
 use Rattle.probe_window.proofs.is_probe_needed.Statement.{statement}
 use Rattle.probe_window.proofs.is_probe_needed.Tie as tie
 
 is-car-fingerprint-confirmed-requires : tie.Need-is-car-fingerprint-confirmed-requires
-is-car-fingerprint-confirmed-requires c κs = search needs
+is-car-fingerprint-confirmed-requires c κs = tt
 
 returns : tie.Need-returns
 unfolding probeNeeded

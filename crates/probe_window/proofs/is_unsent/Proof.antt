@@ -1,9 +1,8 @@
-use borrow.Author.Needs.{needs}
 use Rattle.probe_window.proofs.is_unsent.Statement.{statement}
 use Rattle.probe_window.proofs.is_unsent.Tie as tie
 
 is-entry-requires : tie.Need-is-entry-requires
-is-entry-requires c κs = search needs
+is-entry-requires c κs = tt
 
 returns : tie.Need-returns
 returns c = rw (← c .before .is-entry .ensures, c .if1 .taken)

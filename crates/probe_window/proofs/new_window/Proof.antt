@@ -7,10 +7,10 @@ use Rattle.probe_window.proofs.new_window.Statement.{statement}
 use Rattle.probe_window.proofs.new_window.Tie as tie
 
 first-frames-requires : tie.Need-first-frames-requires
-first-frames-requires c κs = search needs
+first-frames-requires c κs = tt
 
 clamp-requires : tie.Need-clamp-requires
-clamp-requires c κs = search needs
+clamp-requires c κs = tt
 
 returns : tie.Need-returns
 unfolding newWindow

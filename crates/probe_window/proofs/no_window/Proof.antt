@@ -1,9 +1,8 @@
-use borrow.Author.Needs.{needs}
 use Rattle.probe_window.proofs.no_window.Statement.{statement}
 use Rattle.probe_window.proofs.no_window.Tie as tie
 
 no-frame-requires : tie.Need-no-frame-requires
-no-frame-requires c κs = search needs
+no-frame-requires c κs = tt
 
 returns : tie.Need-returns
 returns c = rw (c .no-frame .ensures)

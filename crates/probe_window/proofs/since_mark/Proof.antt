@@ -6,7 +6,7 @@ use Rattle.probe_window.proofs.since_mark.Statement.{statement}
 use Rattle.probe_window.proofs.since_mark.Tie as tie
 
 mark-of-requires : tie.Need-mark-of-requires
-mark-of-requires c κs = search needs
+mark-of-requires c κs = tt
 
 wrapping-sub-u32-requires : tie.Need-wrapping-sub-u32-requires
 wrapping-sub-u32-requires c κs = search needs

@@ -39,7 +39,7 @@ array-read-sent : tie.Need-array-read-sent Inv-loop μ-loop
 array-read-sent c = omega arith
 
 is-unsent-requires : tie.Need-is-unsent-requires Inv-loop μ-loop
-is-unsent-requires c κs = search needs
+is-unsent-requires c κs = tt
 
 returns-2 : tie.Need-returns-2 Inv-loop μ-loop
 unfolding unsentIn

@@ -1,12 +1,11 @@
 use Rattle.answers.specs.Answers as Answers
 use Rattle.answers.specs.Query.{answerTo}
-use Rattle.gate.specs.Gate.{step}
-use borrow.Author.Needs.{needs}
+use Rattle.definition.specs.Gate.{step}
 use Rattle.queries.proofs.ble_max_bonded_phones.Statement.{statement}
 use Rattle.queries.proofs.ble_max_bonded_phones.Tie as tie
 
 in-range-requires : tie.Need-in-range-requires
-in-range-requires c κs = search needs
+in-range-requires c κs = tt
 
 returns : tie.Need-returns
 unfolding step answerTo Answers.told

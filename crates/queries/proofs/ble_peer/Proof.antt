@@ -1,22 +1,21 @@
 use Rattle.answers.specs.Answers.{peerAnswer}
 use Rattle.answers.specs.Query.{answerTo}
-use Rattle.gate.specs.Gate.{step}
-use borrow.Author.Needs.{needs}
+use Rattle.definition.specs.Gate.{step}
 use Rattle.queries.proofs.ble_peer.Statement.{statement}
 use Rattle.queries.proofs.ble_peer.Tie as tie
 
 in-range-requires : tie.Need-in-range-requires
-in-range-requires c κs = search needs
+in-range-requires c κs = tt
 
 peer-of-requires : tie.Need-peer-of-requires
-peer-of-requires c κs = search needs
+peer-of-requires c κs = tt
 
 returns : tie.Need-returns
 unfolding step answerTo peerAnswer
 returns c = rw (c .peer-of .ensures, ← c .before .before .in-range .ensures, c .before .if1 .taken)
 
 no-peer-requires : tie.Need-no-peer-requires
-no-peer-requires c κs = search needs
+no-peer-requires c κs = tt
 
 returns-2 : tie.Need-returns-2
 unfolding step answerTo peerAnswer

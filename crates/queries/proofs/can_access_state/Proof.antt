@@ -1,22 +1,21 @@
 use Rattle.answers.specs.Answers.{accessAnswer}
 use Rattle.answers.specs.Query.{answerTo}
-use Rattle.gate.specs.Gate.{step}
-use borrow.Author.Needs.{needs}
+use Rattle.definition.specs.Gate.{step}
 use Rattle.queries.proofs.can_access_state.Statement.{statement}
 use Rattle.queries.proofs.can_access_state.Tie as tie
 
 in-range-requires : tie.Need-in-range-requires
-in-range-requires c κs = search needs
+in-range-requires c κs = tt
 
 access-of-requires : tie.Need-access-of-requires
-access-of-requires c κs = search needs
+access-of-requires c κs = tt
 
 returns : tie.Need-returns
 unfolding step answerTo accessAnswer
 returns c = rw (c .access-of .ensures, ← c .before .before .before .in-range .ensures, c .before .before .if1 .taken)
 
 no-access-state-requires : tie.Need-no-access-state-requires
-no-access-state-requires c κs = search needs
+no-access-state-requires c κs = tt
 
 returns-2 : tie.Need-returns-2
 unfolding step answerTo accessAnswer

@@ -1,15 +1,14 @@
 use Rattle.answers.specs.Answers as Answers
 use Rattle.answers.specs.Query.{answerTo}
-use Rattle.gate.specs.Gate.{step}
-use borrow.Author.Needs.{needs}
+use Rattle.definition.specs.Gate.{step}
 use Rattle.queries.proofs.can_read_only_reason.Statement.{statement}
 use Rattle.queries.proofs.can_read_only_reason.Tie as tie
 
 in-range-requires : tie.Need-in-range-requires
-in-range-requires c κs = search needs
+in-range-requires c κs = tt
 
 can-read-only-reason-requires : tie.Need-can-read-only-reason-requires
-can-read-only-reason-requires c κs = search needs
+can-read-only-reason-requires c κs = tt
 
 returns : tie.Need-returns
 unfolding step answerTo Answers.told

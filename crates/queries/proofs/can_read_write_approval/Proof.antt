@@ -1,15 +1,14 @@
 use Rattle.answers.specs.Answers.{approvalAnswer}
 use Rattle.answers.specs.Query.{answerTo}
-use Rattle.gate.specs.Gate.{step}
-use borrow.Author.Needs.{needs}
+use Rattle.definition.specs.Gate.{step}
 use Rattle.queries.proofs.can_read_write_approval.Statement.{statement}
 use Rattle.queries.proofs.can_read_write_approval.Tie as tie
 
 in-range-requires : tie.Need-in-range-requires
-in-range-requires c κs = search needs
+in-range-requires c κs = tt
 
 can-read-write-approval-requires : tie.Need-can-read-write-approval-requires
-can-read-write-approval-requires c κs = search needs
+can-read-write-approval-requires c κs = tt
 
 returns : tie.Need-returns
 unfolding step answerTo approvalAnswer

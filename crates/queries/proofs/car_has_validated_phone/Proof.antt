@@ -1,14 +1,13 @@
-use Rattle.gate.specs.Gate.{step}
+use Rattle.definition.specs.Gate.{step}
 use Rattle.answers.specs.Query.{answerTo}
-use borrow.Author.Needs.{needs}
 use Rattle.queries.proofs.car_has_validated_phone.Statement.{statement}
 use Rattle.queries.proofs.car_has_validated_phone.Tie as tie
 
 car-has-validated-phone-requires : tie.Need-car-has-validated-phone-requires
-car-has-validated-phone-requires c κs = search needs
+car-has-validated-phone-requires c κs = tt
 
 told-requires : tie.Need-told-requires
-told-requires c κs = search needs
+told-requires c κs = tt
 
 returns : tie.Need-returns
 unfolding step answerTo

@@ -1,22 +1,21 @@
 use Rattle.answers.specs.Answers.{recordAnswer}
 use Rattle.answers.specs.Query.{answerTo}
-use Rattle.gate.specs.Gate.{step}
-use borrow.Author.Needs.{needs}
+use Rattle.definition.specs.Gate.{step}
 use Rattle.queries.proofs.encode_phone_validations.Statement.{statement}
 use Rattle.queries.proofs.encode_phone_validations.Tie as tie
 
 in-range-requires : tie.Need-in-range-requires
-in-range-requires c κs = search needs
+in-range-requires c κs = tt
 
 record-for-requires : tie.Need-record-for-requires
-record-for-requires c κs = search needs
+record-for-requires c κs = tt
 
 returns : tie.Need-returns
 unfolding step answerTo recordAnswer
 returns c = rw (c .record-for .ensures, ← c .before .before .before .in-range .ensures, c .before .before .if1 .taken)
 
 no-record-requires : tie.Need-no-record-requires
-no-record-requires c κs = search needs
+no-record-requires c κs = tt
 
 returns-2 : tie.Need-returns-2
 unfolding step answerTo recordAnswer

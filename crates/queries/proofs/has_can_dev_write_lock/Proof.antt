@@ -1,14 +1,13 @@
-use Rattle.gate.specs.Gate.{step}
+use Rattle.definition.specs.Gate.{step}
 use Rattle.answers.specs.Query.{answerTo}
-use borrow.Author.Needs.{needs}
 use Rattle.queries.proofs.has_can_dev_write_lock.Statement.{statement}
 use Rattle.queries.proofs.has_can_dev_write_lock.Tie as tie
 
 has-can-dev-write-lock-requires : tie.Need-has-can-dev-write-lock-requires
-has-can-dev-write-lock-requires c κs = search needs
+has-can-dev-write-lock-requires c κs = tt
 
 told-requires : tie.Need-told-requires
-told-requires c κs = search needs
+told-requires c κs = tt
 
 returns : tie.Need-returns
 unfolding step answerTo

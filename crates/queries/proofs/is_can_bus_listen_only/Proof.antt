@@ -1,14 +1,13 @@
-use Rattle.gate.specs.Gate.{step}
+use Rattle.definition.specs.Gate.{step}
 use Rattle.answers.specs.Query.{answerTo}
-use borrow.Author.Needs.{needs}
 use Rattle.queries.proofs.is_can_bus_listen_only.Statement.{statement}
 use Rattle.queries.proofs.is_can_bus_listen_only.Tie as tie
 
 is-can-bus-listen-only-requires : tie.Need-is-can-bus-listen-only-requires
-is-can-bus-listen-only-requires c κs = search needs
+is-can-bus-listen-only-requires c κs = tt
 
 told-requires : tie.Need-told-requires
-told-requires c κs = search needs
+told-requires c κs = tt
 
 returns : tie.Need-returns
 unfolding step answerTo

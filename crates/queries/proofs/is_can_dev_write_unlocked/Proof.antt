@@ -1,14 +1,13 @@
-use Rattle.gate.specs.Gate.{step}
+use Rattle.definition.specs.Gate.{step}
 use Rattle.answers.specs.Query.{answerTo}
-use borrow.Author.Needs.{needs}
 use Rattle.queries.proofs.is_can_dev_write_unlocked.Statement.{statement}
 use Rattle.queries.proofs.is_can_dev_write_unlocked.Tie as tie
 
 is-can-dev-write-unlocked-requires : tie.Need-is-can-dev-write-unlocked-requires
-is-can-dev-write-unlocked-requires c κs = search needs
+is-can-dev-write-unlocked-requires c κs = tt
 
 told-requires : tie.Need-told-requires
-told-requires c κs = search needs
+told-requires c κs = tt
 
 returns : tie.Need-returns
 unfolding step answerTo

@@ -1,14 +1,13 @@
-use Rattle.gate.specs.Gate.{step}
+use Rattle.definition.specs.Gate.{step}
 use Rattle.answers.specs.Query.{answerTo}
-use borrow.Author.Needs.{needs}
 use Rattle.queries.proofs.is_can_fd_bus.Statement.{statement}
 use Rattle.queries.proofs.is_can_fd_bus.Tie as tie
 
 is-can-fd-bus-requires : tie.Need-is-can-fd-bus-requires
-is-can-fd-bus-requires c κs = search needs
+is-can-fd-bus-requires c κs = tt
 
 told-requires : tie.Need-told-requires
-told-requires c κs = search needs
+told-requires c κs = tt
 
 returns : tie.Need-returns
 unfolding step answerTo

@@ -1,14 +1,13 @@
-use Rattle.gate.specs.Gate.{step}
+use Rattle.definition.specs.Gate.{step}
 use Rattle.answers.specs.Query.{answerTo}
-use borrow.Author.Needs.{needs}
 use Rattle.queries.proofs.is_phone_paired.Statement.{statement}
 use Rattle.queries.proofs.is_phone_paired.Tie as tie
 
 is-paired-requires : tie.Need-is-paired-requires
-is-paired-requires c κs = search needs
+is-paired-requires c κs = tt
 
 told-requires : tie.Need-told-requires
-told-requires c κs = search needs
+told-requires c κs = tt
 
 returns : tie.Need-returns
 unfolding step answerTo

@@ -1,14 +1,13 @@
-use Rattle.gate.specs.Gate.{step}
+use Rattle.definition.specs.Gate.{step}
 use Rattle.answers.specs.Query.{answerTo}
-use borrow.Author.Needs.{needs}
 use Rattle.queries.proofs.is_phone_validated.Statement.{statement}
 use Rattle.queries.proofs.is_phone_validated.Tie as tie
 
 is-phone-validated-requires : tie.Need-is-phone-validated-requires
-is-phone-validated-requires c κs = search needs
+is-phone-validated-requires c κs = tt
 
 told-requires : tie.Need-told-requires
-told-requires c κs = search needs
+told-requires c κs = tt
 
 returns : tie.Need-returns
 unfolding step answerTo

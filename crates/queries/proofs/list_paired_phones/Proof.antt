@@ -1,22 +1,21 @@
 use Rattle.answers.specs.Answers.{phonesAnswer}
 use Rattle.answers.specs.Query.{answerTo}
-use Rattle.gate.specs.Gate.{step}
-use borrow.Author.Needs.{needs}
+use Rattle.definition.specs.Gate.{step}
 use Rattle.queries.proofs.list_paired_phones.Statement.{statement}
 use Rattle.queries.proofs.list_paired_phones.Tie as tie
 
 in-range-requires : tie.Need-in-range-requires
-in-range-requires c κs = search needs
+in-range-requires c κs = tt
 
 canonical-requires : tie.Need-canonical-requires
-canonical-requires c κs = search needs
+canonical-requires c κs = tt
 
 returns : tie.Need-returns
 unfolding step answerTo phonesAnswer
 returns c = rw (c .canonical .ensures, ← c .before .before .before .in-range .ensures, c .before .before .if1 .taken)
 
 empty-list-requires : tie.Need-empty-list-requires
-empty-list-requires c κs = search needs
+empty-list-requires c κs = tt
 
 returns-2 : tie.Need-returns-2
 unfolding step answerTo phonesAnswer

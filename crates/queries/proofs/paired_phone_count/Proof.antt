@@ -1,15 +1,14 @@
 use Rattle.answers.specs.Answers as Answers
 use Rattle.answers.specs.Query.{answerTo}
-use Rattle.gate.specs.Gate.{step}
-use borrow.Author.Needs.{needs}
+use Rattle.definition.specs.Gate.{step}
 use Rattle.queries.proofs.paired_phone_count.Statement.{statement}
 use Rattle.queries.proofs.paired_phone_count.Tie as tie
 
 in-range-requires : tie.Need-in-range-requires
-in-range-requires c κs = search needs
+in-range-requires c κs = tt
 
 count-requires : tie.Need-count-requires
-count-requires c κs = search needs
+count-requires c κs = tt
 
 returns : tie.Need-returns
 unfolding step answerTo Answers.told

@@ -1,22 +1,21 @@
 use Rattle.answers.specs.Answers.{phoneAccessAnswer}
 use Rattle.answers.specs.Query.{answerTo}
-use Rattle.gate.specs.Gate.{step}
-use borrow.Author.Needs.{needs}
+use Rattle.definition.specs.Gate.{step}
 use Rattle.queries.proofs.phone_access_state.Statement.{statement}
 use Rattle.queries.proofs.phone_access_state.Tie as tie
 
 in-range-requires : tie.Need-in-range-requires
-in-range-requires c κs = search needs
+in-range-requires c κs = tt
 
 phone-access-of-requires : tie.Need-phone-access-of-requires
-phone-access-of-requires c κs = search needs
+phone-access-of-requires c κs = tt
 
 returns : tie.Need-returns
 unfolding step answerTo phoneAccessAnswer
 returns c = rw (c .phone-access-of .ensures, ← c .before .before .in-range .ensures, c .before .if1 .taken)
 
 no-access-requires : tie.Need-no-access-requires
-no-access-requires c κs = search needs
+no-access-requires c κs = tt
 
 returns-2 : tie.Need-returns-2
 unfolding step answerTo phoneAccessAnswer

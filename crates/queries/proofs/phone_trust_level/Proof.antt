@@ -1,15 +1,14 @@
 use Rattle.answers.specs.Answers.{trustAnswer}
 use Rattle.answers.specs.Query.{answerTo}
-use Rattle.gate.specs.Gate.{step}
-use borrow.Author.Needs.{needs}
+use Rattle.definition.specs.Gate.{step}
 use Rattle.queries.proofs.phone_trust_level.Statement.{statement}
 use Rattle.queries.proofs.phone_trust_level.Tie as tie
 
 in-range-requires : tie.Need-in-range-requires
-in-range-requires c κs = search needs
+in-range-requires c κs = tt
 
 phone-trust-level-requires : tie.Need-phone-trust-level-requires
-phone-trust-level-requires c κs = search needs
+phone-trust-level-requires c κs = tt
 
 returns : tie.Need-returns
 unfolding step answerTo trustAnswer

@@ -1,15 +1,14 @@
 use Rattle.answers.specs.Answers as Answers
 use Rattle.answers.specs.Query.{answerTo}
-use Rattle.gate.specs.Gate.{step}
-use borrow.Author.Needs.{needs}
+use Rattle.definition.specs.Gate.{step}
 use Rattle.queries.proofs.session_for.Statement.{statement}
 use Rattle.queries.proofs.session_for.Tie as tie
 
 in-range-requires : tie.Need-in-range-requires
-in-range-requires c κs = search needs
+in-range-requires c κs = tt
 
 session-shown-requires : tie.Need-session-shown-requires
-session-shown-requires c κs = search needs
+session-shown-requires c κs = tt
 
 returns : tie.Need-returns
 unfolding step answerTo Answers.told

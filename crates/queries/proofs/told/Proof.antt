@@ -1,13 +1,12 @@
 use Rattle.answers.specs.Answers as Answers
-use borrow.Author.Needs.{needs}
 use Rattle.queries.proofs.told.Statement.{statement}
 use Rattle.queries.proofs.told.Tie as tie
 
 in-range-requires : tie.Need-in-range-requires
-in-range-requires c κs = search needs
+in-range-requires c κs = tt
 
 yes-no-requires : tie.Need-yes-no-requires
-yes-no-requires c κs = search needs
+yes-no-requires c κs = tt
 
 returns : tie.Need-returns
 unfolding Answers.told

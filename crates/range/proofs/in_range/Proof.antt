@@ -1,23 +1,22 @@
 -- The tests stand in the definition's order; the first that fails decides.
-use borrow.Author.Needs.{needs}
 use Rattle.range.specs.Range.{inRange}
 use Rattle.range.proofs.in_range.Statement.{statement}
 use Rattle.range.proofs.in_range.Tie as tie
 
 settings-fit-requires : tie.Need-settings-fit-requires
-settings-fit-requires c κs = search needs
+settings-fit-requires c κs = tt
 
 methods-fit-requires : tie.Need-methods-fit-requires
-methods-fit-requires c κs = search needs
+methods-fit-requires c κs = tt
 
 phones-fit-requires : tie.Need-phones-fit-requires
-phones-fit-requires c κs = search needs
+phones-fit-requires c κs = tt
 
 session-fits-requires : tie.Need-session-fits-requires
-session-fits-requires c κs = search needs
+session-fits-requires c κs = tt
 
 window-fits-requires : tie.Need-window-fits-requires
-window-fits-requires c κs = search needs
+window-fits-requires c κs = tt
 
 returns : tie.Need-returns
 unfolding inRange

@@ -28,7 +28,7 @@ slice-aggregate-printable c =
     rw length-take (omega arith)
 
 printable-requires : tie.Need-printable-requires
-printable-requires c κs = search needs
+printable-requires c κs = tt
 
 returns-3 : tie.Need-returns-3
 unfolding methodFits within idBytes

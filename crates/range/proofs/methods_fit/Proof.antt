@@ -36,7 +36,7 @@ array-copy-out-method : tie.Need-array-copy-out-method Inv-loop μ-loop
 array-copy-out-method c = omega arith
 
 method-fits-requires : tie.Need-method-fits-requires Inv-loop μ-loop
-method-fits-requires c κs = search needs
+method-fits-requires c κs = tt
 
 add-i : tie.Need-add-i Inv-loop μ-loop
 add-i c = omega arith

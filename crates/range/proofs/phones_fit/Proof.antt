@@ -1,17 +1,16 @@
 -- The tests stand in the definition's order; the first that fails decides.
-use borrow.Author.Needs.{needs}
 use Rattle.range.specs.Range.{phonesFit}
 use Rattle.range.proofs.phones_fit.Statement.{statement}
 use Rattle.range.proofs.phones_fit.Tie as tie
 
 list-in-range-requires : tie.Need-list-in-range-requires
-list-in-range-requires c κs = search needs
+list-in-range-requires c κs = tt
 
 list-in-range-requires-2 : tie.Need-list-in-range-requires-2
-list-in-range-requires-2 c κs = search needs
+list-in-range-requires-2 c κs = tt
 
 id-in-range-requires : tie.Need-id-in-range-requires
-id-in-range-requires c κs = search needs
+id-in-range-requires c κs = tt
 
 returns : tie.Need-returns
 unfolding phonesFit

@@ -1,15 +1,14 @@
 -- Where a session is there, the tests stand in the definition's order.
 use borrow.Author.Tests.{le-ltb, lt-ltb}
-use borrow.Author.Needs.{needs}
 use Rattle.range.specs.Range.{sessionFits}
 use Rattle.range.proofs.session_fits.Statement.{statement}
 use Rattle.range.proofs.session_fits.Tie as tie
 
 id-in-range-requires : tie.Need-id-in-range-requires
-id-in-range-requires c κs = search needs
+id-in-range-requires c κs = tt
 
 tries-fit-requires : tie.Need-tries-fit-requires
-tries-fit-requires c κs = search needs
+tries-fit-requires c κs = tt
 
 returns : tie.Need-returns
 unfolding sessionFits

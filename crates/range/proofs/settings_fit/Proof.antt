@@ -1,26 +1,25 @@
 -- The tests stand in the definition's order; the first that fails decides.
-use borrow.Author.Needs.{needs}
 use Rattle.range.specs.Range.{settingsFit}
 use Rattle.range.proofs.settings_fit.Statement.{statement}
 use Rattle.range.proofs.settings_fit.Tie as tie
 
 within-requires : tie.Need-within-requires
-within-requires c κs = search needs
+within-requires c κs = tt
 
 within-requires-2 : tie.Need-within-requires-2
-within-requires-2 c κs = search needs
+within-requires-2 c κs = tt
 
 within-requires-3 : tie.Need-within-requires-3
-within-requires-3 c κs = search needs
+within-requires-3 c κs = tt
 
 within-requires-4 : tie.Need-within-requires-4
-within-requires-4 c κs = search needs
+within-requires-4 c κs = tt
 
 within-requires-5 : tie.Need-within-requires-5
-within-requires-5 c κs = search needs
+within-requires-5 c κs = tt
 
 within-requires-6 : tie.Need-within-requires-6
-within-requires-6 c κs = search needs
+within-requires-6 c κs = tt
 
 returns : tie.Need-returns
 unfolding settingsFit

@@ -1,14 +1,13 @@
 -- Tries are tested exactly where a code entry session is in progress.
-use borrow.Author.Needs.{needs}
 use Rattle.range.specs.Range.{triesFit}
 use Rattle.range.proofs.tries_fit.Statement.{statement}
 use Rattle.range.proofs.tries_fit.Tie as tie
 
 code-in-progress-requires : tie.Need-code-in-progress-requires
-code-in-progress-requires c κs = search needs
+code-in-progress-requires c κs = tt
 
 within-requires : tie.Need-within-requires
-within-requires c κs = search needs
+within-requires c κs = tt
 
 returns : tie.Need-returns
 unfolding triesFit

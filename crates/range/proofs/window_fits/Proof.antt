@@ -1,11 +1,10 @@
 -- The count is tested exactly where a window is there.
-use borrow.Author.Needs.{needs}
 use Rattle.range.specs.Range.{windowFits}
 use Rattle.range.proofs.window_fits.Statement.{statement}
 use Rattle.range.proofs.window_fits.Tie as tie
 
 within-requires : tie.Need-within-requires
-within-requires c κs = search needs
+within-requires c κs = tt
 
 returns : tie.Need-returns
 unfolding windowFits

@@ -7,10 +7,10 @@ use Rattle.replay.proofs.give_line.Statement.{statement}
 use Rattle.replay.proofs.give_line.Tie as tie
 
 put-too-long-requires : tie.Need-put-too-long-requires
-put-too-long-requires c κs = search needs
+put-too-long-requires c κs = tt
 
 not-called-requires : tie.Need-not-called-requires
-not-called-requires c κs = search needs
+not-called-requires c κs = tt
 
 same-length : tie.Need-same-length
 same-length c = search needs
@@ -23,10 +23,10 @@ slice-aggregate-is-passed-over : tie.Need-slice-aggregate-is-passed-over
 slice-aggregate-is-passed-over c = first-length _ _ (c .before .if1 .left)
 
 is-passed-over-requires : tie.Need-is-passed-over-requires
-is-passed-over-requires c κs = search needs
+is-passed-over-requires c κs = tt
 
 not-called-requires-2 : tie.Need-not-called-requires-2
-not-called-requires-2 c κs = search needs
+not-called-requires-2 c κs = tt
 
 returns-2 : tie.Need-returns-2
 unfolding lineIn

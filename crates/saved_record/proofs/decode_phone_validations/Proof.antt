@@ -9,7 +9,7 @@ use Rattle.saved_record.proofs.decode_phone_validations.Statement.{stat
 use Rattle.saved_record.proofs.decode_phone_validations.Tie as tie
 
 refused-requires : tie.Need-refused-requires
-refused-requires c κs = search needs
+refused-requires c κs = tt
 
 returns : tie.Need-returns
 unfolding restored
@@ -19,7 +19,7 @@ shared-slice-read-if2 : tie.Need-shared-slice-read-if2
 shared-slice-read-if2 c = search needs
 
 refused-requires-2 : tie.Need-refused-requires-2
-refused-requires-2 c κs = search needs
+refused-requires-2 c κs = tt
 
 returns-2 : tie.Need-returns-2
 unfolding restored
@@ -32,7 +32,7 @@ cast-count : tie.Need-cast-count
 cast-count c = omega (arith, c .shared-slice-known3 .given 33)
 
 refused-requires-3 : tie.Need-refused-requires-3
-refused-requires-3 c κs = search needs
+refused-requires-3 c κs = tt
 
 returns-3 : tie.Need-returns-3
 unfolding restored judged readCounted
@@ -64,7 +64,7 @@ part-read-phones-end : tie.Need-part-read-phones-end
 part-read-phones-end c = search needs
 
 read-phones-requires : tie.Need-read-phones-requires
-read-phones-requires c κs = search needs
+read-phones-requires c κs = tt
 
 returns-4 : tie.Need-returns-4
 returns-4 c =

@@ -19,7 +19,7 @@ abbrev μ-loop : tie.MeasureT-loop
 μ-loop phones bytes₀ n at₀ i₀ bytes at i = n - i
 
 count-requires : tie.Need-count-requires Inv-loop μ-loop
-count-requires c κs = search needs
+count-requires c κs = tt
 
 returns : tie.Need-returns Inv-loop μ-loop
 returns c = record-empty (c .before .before .args .t1) (phonesOf (c .before .before .args .t2)) (sym (c .before .count .ensures) ∙ c .if1 .taken)

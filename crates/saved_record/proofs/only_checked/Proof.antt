@@ -20,7 +20,7 @@ loop-holds : tie.Need-loop-holds Inv-loop μ-loop
 loop-holds c = (omega arith, refl)
 
 first-length-requires : tie.Need-first-length-requires Inv-loop μ-loop
-first-length-requires c κs = search needs
+first-length-requires c κs = tt
 
 returns : tie.Need-returns Inv-loop μ-loop
 returns c =

@@ -8,7 +8,7 @@ use Rattle.saved_record.proofs.put_phone.Statement.{statement}
 use Rattle.saved_record.proofs.put_phone.Tie as tie
 
 clamp-requires : tie.Need-clamp-requires
-clamp-requires c κs = search needs
+clamp-requires c κs = tt
 
 cast-out : tie.Need-cast-out
 cast-out c = search needs

@@ -16,10 +16,10 @@ abbrev μ-loop : tie.MeasureT-loop
 μ-loop car count fields phones₀ rest₀ left₀ phones rest left = left
 
 only-checked-requires : tie.Need-only-checked-requires Inv-loop μ-loop
-only-checked-requires c κs = search needs
+only-checked-requires c κs = tt
 
 refused-requires : tie.Need-refused-requires Inv-loop μ-loop
-refused-requires c κs = search needs
+refused-requires c κs = tt
 
 returns : tie.Need-returns Inv-loop μ-loop
 returns c =
@@ -27,7 +27,7 @@ returns c =
     (too-many (c .before .before .before .before .args .car) (c .before .before .before .before .args .count) (c .before .before .before .before .args .fields .now) (c .before .before .if1 .taken))
 
 empty-list-requires : tie.Need-empty-list-requires Inv-loop μ-loop
-empty-list-requires c κs = search needs
+empty-list-requires c κs = tt
 
 loop-holds : tie.Need-loop-holds Inv-loop μ-loop
 unfolding after anyLong
@@ -35,10 +35,10 @@ loop-holds c =
     ([], record { within = omega arith; list = c .empty-list .ensures; many = omega arith; short = refl; reading = refl })
 
 first-length-requires : tie.Need-first-length-requires Inv-loop μ-loop
-first-length-requires c κs = search needs
+first-length-requires c κs = tt
 
 refused-requires-2 : tie.Need-refused-requires-2 Inv-loop μ-loop
-refused-requires-2 c κs = search needs
+refused-requires-2 c κs = tt
 
 returns-2 : tie.Need-returns-2 Inv-loop μ-loop
 returns-2 c =
@@ -48,10 +48,10 @@ returns-2 c =
     (read-none (at .left) (at .rest .now) (c .before .before .before .loop-test .taken) (sym (c .before .if2 .taken) ∙ c .before .before .first-length .ensures)))
 
 only-checked-requires-2 : tie.Need-only-checked-requires-2 Inv-loop μ-loop
-only-checked-requires-2 c κs = search needs
+only-checked-requires-2 c κs = tt
 
 refused-requires-3 : tie.Need-refused-requires-3 Inv-loop μ-loop
-refused-requires-3 c κs = search needs
+refused-requires-3 c κs = tt
 
 returns-3 : tie.Need-returns-3 Inv-loop μ-loop
 returns-3 c =
@@ -75,7 +75,7 @@ part-make-id-end : tie.Need-part-make-id-end Inv-loop μ-loop
 part-make-id-end c = first-fits (c .before .before .before .before .loop .rest .now) (c .before .before .first-length .result) (c .before .before .first-length .ensures) (c .before .if2 .left)
 
 make-id-requires : tie.Need-make-id-requires Inv-loop μ-loop
-make-id-requires c κs = search needs
+make-id-requires c κs = tt
 
 sub-k : tie.Need-sub-k Inv-loop μ-loop
 sub-k c = let m = c .before .before .before .before .before .before .before .loop .inv .1 .many in omega arith
@@ -113,7 +113,7 @@ loop-again c =
     )
 
 refused-requires-4 : tie.Need-refused-requires-4 Inv-loop μ-loop
-refused-requires-4 c κs = search needs
+refused-requires-4 c κs = tt
 
 returns-4 : tie.Need-returns-4 Inv-loop μ-loop
 returns-4 c =

@@ -1,12 +1,11 @@
 -- Zeros and the empty list, with the answer as it came.
 use Rattle.saved_record.specs.SavedRecord.{refusal}
 use Rattle.saved_record.specs.Steps.{firstLength}
-use borrow.Author.Needs.{needs}
 use Rattle.saved_record.proofs.refused.Statement.{statement}
 use Rattle.saved_record.proofs.refused.Tie as tie
 
 empty-list-requires : tie.Need-empty-list-requires
-empty-list-requires c κs = search needs
+empty-list-requires c κs = tt
 
 returns : tie.Need-returns
 unfolding refusal firstLength

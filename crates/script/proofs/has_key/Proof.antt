@@ -15,7 +15,7 @@ slice-aggregate-same-bytes : tie.Need-slice-aggregate-same-bytes
 slice-aggregate-same-bytes c = let a = c .before .before .before .before .before .before .args in sym (length-take-le (length (a .key .now)) (a .word .now) (omega arith))
 
 same-bytes-requires : tie.Need-same-bytes-requires
-same-bytes-requires c κs = search needs
+same-bytes-requires c κs = tt
 
 returns : tie.Need-returns
 unfolding hasKey

@@ -1,23 +1,22 @@
-use borrow.Author.Needs.{needs}
 use Rattle.session.specs.Session.{cannotGoOn}
 use Rattle.session.proofs.cannot_go_on.Statement.{statement}
 use Rattle.session.proofs.cannot_go_on.Tie as tie
 
 is-identified-requires : tie.Need-is-identified-requires
-is-identified-requires c κs = search needs
+is-identified-requires c κs = tt
 
 method-at-requires : tie.Need-method-at-requires
-method-at-requires c κs = search needs
+method-at-requires c κs = tt
 
 lost-read-write-requires : tie.Need-lost-read-write-requires
-lost-read-write-requires c κs = search needs
+lost-read-write-requires c κs = tt
 
 returns : tie.Need-returns
 unfolding cannotGoOn
 returns c = rw (← c .before .before .method-at .ensures, ← c .before .before .before .before .before .is-identified .ensures, c .before .before .before .before .if1 .taken, ← c .before .lost-read-write .ensures, c .if2 .taken)
 
 note-at-requires : tie.Need-note-at-requires
-note-at-requires c κs = search needs
+note-at-requires c κs = tt
 
 returns-2 : tie.Need-returns-2
 unfolding cannotGoOn

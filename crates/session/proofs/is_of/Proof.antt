@@ -1,10 +1,9 @@
-use borrow.Author.Needs.{needs}
 use Rattle.session.specs.Session.{isOf}
 use Rattle.session.proofs.is_of.Statement.{statement}
 use Rattle.session.proofs.is_of.Tie as tie
 
 id-is-requires : tie.Need-id-is-requires
-id-is-requires c κs = search needs
+id-is-requires c κs = tt
 
 returns : tie.Need-returns
 unfolding isOf

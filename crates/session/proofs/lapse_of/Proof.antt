@@ -1,19 +1,18 @@
 use Prim.Native.Nat.{_<_}
 use native.Mathlib.Omega.{arith}
-use borrow.Author.Needs.{needs}
 use borrow.Author.Tests.{lt-ltb, le-ltb}
 use Rattle.session.specs.Session.{lapseOf}
 use Rattle.session.proofs.lapse_of.Statement.{statement}
 use Rattle.session.proofs.lapse_of.Tie as tie
 
 in-progress-requires : tie.Need-in-progress-requires
-in-progress-requires c κs = search needs
+in-progress-requires c κs = tt
 
 cannot-go-on-requires : tie.Need-cannot-go-on-requires
-cannot-go-on-requires c κs = search needs
+cannot-go-on-requires c κs = tt
 
 lapse-by-requires : tie.Need-lapse-by-requires
-lapse-by-requires c κs = search needs
+lapse-by-requires c κs = tt
 
 returns : tie.Need-returns
 unfolding lapseOf
@@ -29,7 +28,7 @@ returns c =
     )
 
 lapse-by-requires-2 : tie.Need-lapse-by-requires-2
-lapse-by-requires-2 c κs = search needs
+lapse-by-requires-2 c κs = tt
 
 returns-2 : tie.Need-returns-2
 unfolding lapseOf

@@ -1,10 +1,9 @@
-use borrow.Author.Needs.{needs}
 use Rattle.session.specs.Session.{lostReadWrite}
 use Rattle.session.proofs.lost_read_write.Statement.{statement}
 use Rattle.session.proofs.lost_read_write.Tie as tie
 
 is-can-read-only-requires : tie.Need-is-can-read-only-requires
-is-can-read-only-requires c κs = search needs
+is-can-read-only-requires c κs = tt
 
 returns : tie.Need-returns
 unfolding lostReadWrite

@@ -1,19 +1,18 @@
-use borrow.Author.Needs.{needs}
 use Rattle.session.specs.Session.{replyOf}
 use Rattle.session.proofs.reply_of.Statement.{statement}
 use Rattle.session.proofs.reply_of.Tie as tie
 
 method-at-requires : tie.Need-method-at-requires
-method-at-requires c κs = search needs
+method-at-requires c κs = tt
 
 seconds-of-requires : tie.Need-seconds-of-requires
-seconds-of-requires c κs = search needs
+seconds-of-requires c κs = tt
 
 seconds-to-requires : tie.Need-seconds-to-requires
-seconds-to-requires c κs = search needs
+seconds-to-requires c κs = tt
 
 is-code-requires : tie.Need-is-code-requires
-is-code-requires c κs = search needs
+is-code-requires c κs = tt
 
 returns : tie.Need-returns
 unfolding replyOf

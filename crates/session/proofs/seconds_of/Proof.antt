@@ -1,13 +1,12 @@
-use borrow.Author.Needs.{needs}
 use Rattle.session.specs.Session.{secondsOf}
 use Rattle.session.proofs.seconds_of.Statement.{statement}
 use Rattle.session.proofs.seconds_of.Tie as tie
 
 is-running-requires : tie.Need-is-running-requires
-is-running-requires c κs = search needs
+is-running-requires c κs = tt
 
 seconds-to-requires : tie.Need-seconds-to-requires
-seconds-to-requires c κs = search needs
+seconds-to-requires c κs = tt
 
 returns : tie.Need-returns
 unfolding secondsOf

@@ -18,7 +18,7 @@ sub-from : tie.Need-sub-from
 sub-from c = search needs
 
 hash-blocks-requires : tie.Need-hash-blocks-requires
-hash-blocks-requires c κs = search needs
+hash-blocks-requires c κs = tt
 
 sub-last : tie.Need-sub-last
 sub-last c = search needs
@@ -42,10 +42,10 @@ slice-aggregate-hash-blocks : tie.Need-slice-aggregate-hash-blocks
 slice-aggregate-hash-blocks c = sym (length-take-le _ _ (search needs))
 
 hash-blocks-requires-2 : tie.Need-hash-blocks-requires-2
-hash-blocks-requires-2 c κs = search needs
+hash-blocks-requires-2 c κs = tt
 
 out-requires : tie.Need-out-requires
-out-requires c κs = search needs
+out-requires c κs = tt
 
 returns : tie.Need-returns
 unfolding finished

@@ -29,7 +29,7 @@ cast-big4 : tie.Need-cast-big4
 cast-big4 c = search needs
 
 big4-requires : tie.Need-big4-requires
-big4-requires c κs = search needs
+big4-requires c κs = tt
 
 slice-aggregate-put-3 : tie.Need-slice-aggregate-put-3
 slice-aggregate-put-3 c = search needs
@@ -50,7 +50,7 @@ cast-big4-2 : tie.Need-cast-big4-2
 cast-big4-2 c = search needs
 
 big4-requires-2 : tie.Need-big4-requires-2
-big4-requires-2 c κs = search needs
+big4-requires-2 c κs = tt
 
 slice-aggregate-put-5 : tie.Need-slice-aggregate-put-5
 slice-aggregate-put-5 c = search needs

@@ -34,7 +34,7 @@ array-read-big4 : tie.Need-array-read-big4 Inv-loop μ-loop
 array-read-big4 c = search needs
 
 big4-requires : tie.Need-big4-requires Inv-loop μ-loop
-big4-requires c κs = search needs
+big4-requires c κs = tt
 
 slice-aggregate-put-2 : tie.Need-slice-aggregate-put-2 Inv-loop μ-loop
 slice-aggregate-put-2 c = search needs

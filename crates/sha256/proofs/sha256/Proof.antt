@@ -1,11 +1,10 @@
 -- The digest is that of the whole message as the rest.
-use borrow.Author.Needs.{needs}
 use Rattle.sha256.specs.Sha256.{sha256, finished}
 use Rattle.sha256.proofs.sha256.Statement.{statement}
 use Rattle.sha256.proofs.sha256.Tie as tie
 
 finish-requires : tie.Need-finish-requires
-finish-requires c κs = search needs
+finish-requires c κs = tt
 
 returns : tie.Need-returns
 unfolding sha256 finished

@@ -1,20 +1,19 @@
 use Rattle.answers.specs.Answers.{canStart}
-use borrow.Author.Needs.{needs}
 use Rattle.shown.proofs.can_start.Statement.{statement}
 use Rattle.shown.proofs.can_start.Tie as tie
 
 is-car-fingerprint-confirmed-requires : tie.Need-is-car-fingerprint-confirmed-requires
-is-car-fingerprint-confirmed-requires c κs = search needs
+is-car-fingerprint-confirmed-requires c κs = tt
 
 lost-read-write-requires : tie.Need-lost-read-write-requires
-lost-read-write-requires c κs = search needs
+lost-read-write-requires c κs = tt
 
 returns : tie.Need-returns
 unfolding canStart
 returns c = rw (← c .before .lost-read-write .ensures, ← c .before .before .before .is-car-fingerprint-confirmed .ensures, c .if2 .taken, c .before .before .if1 .taken)
 
 note-at-requires : tie.Need-note-at-requires
-note-at-requires c κs = search needs
+note-at-requires c κs = tt
 
 returns-2 : tie.Need-returns-2
 unfolding canStart

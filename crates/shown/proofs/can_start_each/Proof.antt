@@ -37,7 +37,7 @@ array-copy-out-m : tie.Need-array-copy-out-m Inv-loop μ-loop
 array-copy-out-m c = omega arith
 
 can-start-requires : tie.Need-can-start-requires Inv-loop μ-loop
-can-start-requires c κs = search needs
+can-start-requires c κs = tt
 
 array-write-out : tie.Need-array-write-out Inv-loop μ-loop
 array-write-out c = omega arith

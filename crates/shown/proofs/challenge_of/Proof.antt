@@ -1,20 +1,19 @@
 use Rattle.answers.specs.Answers.{challengeOf}
-use borrow.Author.Needs.{needs}
 use Rattle.shown.proofs.challenge_of.Statement.{statement}
 use Rattle.shown.proofs.challenge_of.Tie as tie
 
 code-in-progress-requires : tie.Need-code-in-progress-requires
-code-in-progress-requires c κs = search needs
+code-in-progress-requires c κs = tt
 
 first-digits-requires : tie.Need-first-digits-requires
-first-digits-requires c κs = search needs
+first-digits-requires c κs = tt
 
 returns : tie.Need-returns
 unfolding challengeOf
 returns c = rw (c .first-digits .ensures, ← c .before .before .code-in-progress .ensures, c .before .if1 .taken)
 
 first-digits-requires-2 : tie.Need-first-digits-requires-2
-first-digits-requires-2 c κs = search needs
+first-digits-requires-2 c κs = tt
 
 returns-2 : tie.Need-returns-2
 unfolding challengeOf

@@ -6,7 +6,7 @@ use Rattle.shown.proofs.count_used.Statement.{statement}
 use Rattle.shown.proofs.count_used.Tie as tie
 
 at-most-requires : tie.Need-at-most-requires
-at-most-requires c κs = search needs
+at-most-requires c κs = tt
 
 returns : tie.Need-returns
 returns c =

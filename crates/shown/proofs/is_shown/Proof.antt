@@ -1,20 +1,19 @@
 use Rattle.answers.specs.Answers.{isShown}
-use borrow.Author.Needs.{needs}
 use Rattle.shown.proofs.is_shown.Statement.{statement}
 use Rattle.shown.proofs.is_shown.Tie as tie
 
 is-of-requires : tie.Need-is-of-requires
-is-of-requires c κs = search needs
+is-of-requires c κs = tt
 
 is-running-requires : tie.Need-is-running-requires
-is-running-requires c κs = search needs
+is-running-requires c κs = tt
 
 returns : tie.Need-returns
 unfolding isShown
 returns c = rw (← c .before .is-running .ensures, ← c .before .before .before .is-of .ensures, c .if3 .taken, c .before .before .if2 .taken, c .before .before .before .before .if1 .taken)
 
 is-kept-requires : tie.Need-is-kept-requires
-is-kept-requires c κs = search needs
+is-kept-requires c κs = tt
 
 returns-2 : tie.Need-returns-2
 unfolding isShown

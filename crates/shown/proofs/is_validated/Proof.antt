@@ -8,7 +8,7 @@ use Rattle.shown.proofs.is_validated.Statement.{statement}
 use Rattle.shown.proofs.is_validated.Tie as tie
 
 at-most-requires : tie.Need-at-most-requires
-at-most-requires c κs = search needs
+at-most-requires c κs = tt
 
 array-share-prefix-bytes : tie.Need-array-share-prefix-bytes
 array-share-prefix-bytes c = let far : length (c .before .before .args .p .bytes) ≡ 32 = search needs in omega arith
@@ -17,7 +17,7 @@ slice-aggregate-is-phone-validated : tie.Need-slice-aggregate-is-phone-validated
 slice-aggregate-is-phone-validated c = let far : length (c .before .before .before .args .p .bytes) ≡ 32 = search needs in rw length-take (omega arith)
 
 is-phone-validated-requires : tie.Need-is-phone-validated-requires
-is-phone-validated-requires c κs = search needs
+is-phone-validated-requires c κs = tt
 
 returns : tie.Need-returns
 returns c =

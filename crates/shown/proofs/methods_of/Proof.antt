@@ -1,15 +1,14 @@
-use borrow.Author.Needs.{needs}
 use Rattle.shown.proofs.methods_of.Statement.{statement}
 use Rattle.shown.proofs.methods_of.Tie as tie
 
 used-methods-requires : tie.Need-used-methods-requires
-used-methods-requires c κs = search needs
+used-methods-requires c κs = tt
 
 can-start-each-requires : tie.Need-can-start-each-requires
-can-start-each-requires c κs = search needs
+can-start-each-requires c κs = tt
 
 count-used-requires : tie.Need-count-used-requires
-count-used-requires c κs = search needs
+count-used-requires c κs = tt
 
 returns : tie.Need-returns
 returns c = rw (c .count-used .ensures, c .before .can-start-each .ensures, c .before .before .used-methods .ensures)

@@ -1,9 +1,8 @@
-use borrow.Author.Needs.{needs}
 use Rattle.shown.proofs.no_challenge.Statement.{statement}
 use Rattle.shown.proofs.no_challenge.Tie as tie
 
 no-challenge-requires : tie.Need-no-challenge-requires
-no-challenge-requires c κs = search needs
+no-challenge-requires c κs = tt
 
 returns : tie.Need-returns
 returns c = rw (c .no-challenge .ensures)

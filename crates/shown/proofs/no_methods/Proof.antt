@@ -1,10 +1,9 @@
 use Rattle.arrays.specs.Arrays.{padded}
-use borrow.Author.Needs.{needs}
 use Rattle.shown.proofs.no_methods.Statement.{statement}
 use Rattle.shown.proofs.no_methods.Tie as tie
 
 no-method-requires : tie.Need-no-method-requires
-no-method-requires c κs = search needs
+no-method-requires c κs = tt
 
 returns : tie.Need-returns
 unfolding padded

@@ -1,19 +1,18 @@
 use borrow.Author.Tests.{eq-eqb, ne-eqb}
-use borrow.Author.Needs.{needs}
 use Rattle.shown.proofs.peer_of.Statement.{statement}
 use Rattle.shown.proofs.peer_of.Tie as tie
 
 no-peer-requires : tie.Need-no-peer-requires
-no-peer-requires c κs = search needs
+no-peer-requires c κs = tt
 
 returns : tie.Need-returns
 returns c = rw (c .no-peer .ensures, eq-eqb _ _ (c .before .if1 .taken))
 
 clean-requires : tie.Need-clean-requires
-clean-requires c κs = search needs
+clean-requires c κs = tt
 
 is-validated-requires : tie.Need-is-validated-requires
-is-validated-requires c κs = search needs
+is-validated-requires c κs = tt
 
 returns-2 : tie.Need-returns-2
 returns-2 c = rw (c .before .clean .ensures, ne-eqb _ _ (c .before .before .if1 .left), ← c .is-validated .ensures)

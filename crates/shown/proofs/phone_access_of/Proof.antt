@@ -1,22 +1,21 @@
 use borrow.Author.Tests.{eq-eqb, ne-eqb}
-use borrow.Author.Needs.{needs}
 use Rattle.shown.proofs.phone_access_of.Statement.{statement}
 use Rattle.shown.proofs.phone_access_of.Tie as tie
 
 no-access-requires : tie.Need-no-access-requires
-no-access-requires c κs = search needs
+no-access-requires c κs = tt
 
 returns : tie.Need-returns
 returns c = rw (c .no-access .ensures, eq-eqb _ _ (c .before .if1 .taken))
 
 trust-in-requires : tie.Need-trust-in-requires
-trust-in-requires c κs = search needs
+trust-in-requires c κs = tt
 
 car-has-validated-phone-requires : tie.Need-car-has-validated-phone-requires
-car-has-validated-phone-requires c κs = search needs
+car-has-validated-phone-requires c κs = tt
 
 session-of-requires : tie.Need-session-of-requires
-session-of-requires c κs = search needs
+session-of-requires c κs = tt
 
 returns-2 : tie.Need-returns-2
 returns-2 c = rw (c .session-of .ensures, c .before .car-has-validated-phone .ensures, c .before .before .trust-in .ensures, ne-eqb _ _ (c .before .before .before .if1 .left))

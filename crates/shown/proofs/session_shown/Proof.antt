@@ -1,13 +1,12 @@
 use Rattle.answers.specs.Answers.{sessionShown}
-use borrow.Author.Needs.{needs}
 use Rattle.shown.proofs.session_shown.Statement.{statement}
 use Rattle.shown.proofs.session_shown.Tie as tie
 
 is-shown-requires : tie.Need-is-shown-requires
-is-shown-requires c κs = search needs
+is-shown-requires c κs = tt
 
 reply-of-requires : tie.Need-reply-of-requires
-reply-of-requires c κs = search needs
+reply-of-requires c κs = tt
 
 returns : tie.Need-returns
 unfolding sessionShown

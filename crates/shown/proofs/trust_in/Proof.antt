@@ -8,7 +8,7 @@ use Rattle.shown.proofs.trust_in.Statement.{statement}
 use Rattle.shown.proofs.trust_in.Tie as tie
 
 at-most-requires : tie.Need-at-most-requires
-at-most-requires c κs = search needs
+at-most-requires c κs = tt
 
 array-share-prefix-bytes : tie.Need-array-share-prefix-bytes
 array-share-prefix-bytes c = let far : length (c .before .before .args .p .bytes) ≡ 32 = search needs in omega arith
@@ -17,7 +17,7 @@ slice-aggregate-phone-trust-level : tie.Need-slice-aggregate-phone-trust-level
 slice-aggregate-phone-trust-level c = let far : length (c .before .before .before .args .p .bytes) ≡ 32 = search needs in rw length-take (omega arith)
 
 phone-trust-level-requires : tie.Need-phone-trust-level-requires
-phone-trust-level-requires c κs = search needs
+phone-trust-level-requires c κs = tt
 
 returns : tie.Need-returns
 returns c =

@@ -7,22 +7,22 @@ new-session-requires : tie.Need-new-session-requires
 new-session-requires c κs = search needs
 
 method-at-requires : tie.Need-method-at-requires
-method-at-requires c κs = search needs
+method-at-requires c κs = tt
 
 challenge-for-requires : tie.Need-challenge-for-requires
-challenge-for-requires c κs = search needs
+challenge-for-requires c κs = tt
 
 challenge-changed-requires : tie.Need-challenge-changed-requires
-challenge-changed-requires c κs = search needs
+challenge-changed-requires c κs = tt
 
 next-number-requires : tie.Need-next-number-requires
-next-number-requires c κs = search needs
+next-number-requires c κs = tt
 
 with-validation-requires : tie.Need-with-validation-requires
-with-validation-requires c κs = search needs
+with-validation-requires c κs = tt
 
 reply-of-requires : tie.Need-reply-of-requires
-reply-of-requires c κs = search needs
+reply-of-requires c κs = tt
 
 returns : tie.Need-returns
 unfolding begin

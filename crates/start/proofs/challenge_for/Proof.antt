@@ -1,13 +1,12 @@
 use Rattle.validation.specs.Calls.{challengeFor}
-use borrow.Author.Needs.{needs}
 use Rattle.start.proofs.challenge_for.Statement.{statement}
 use Rattle.start.proofs.challenge_for.Tie as tie
 
 no-challenge-requires : tie.Need-no-challenge-requires
-no-challenge-requires c κs = search needs
+no-challenge-requires c κs = tt
 
 is-code-requires : tie.Need-is-code-requires
-is-code-requires c κs = search needs
+is-code-requires c κs = tt
 
 returns : tie.Need-returns
 unfolding challengeFor

@@ -1,15 +1,14 @@
 use Rattle.phones.specs.Phones.{madeId}
 use Rattle.validation.specs.Calls.{newSession}
 use borrow.Author.Tests.{le-ltb}
-use borrow.Author.Needs.{needs}
 use Rattle.start.proofs.new_session.Statement.{statement}
 use Rattle.start.proofs.new_session.Tie as tie
 
 make-id-requires : tie.Need-make-id-requires
-make-id-requires c κs = search needs
+make-id-requires c κs = tt
 
 saturating-add-requires : tie.Need-saturating-add-requires
-saturating-add-requires c κs = search needs
+saturating-add-requires c κs = tt
 
 returns : tie.Need-returns
 unfolding newSession madeId

@@ -1,12 +1,11 @@
-use borrow.Author.Needs.{needs}
 use Rattle.start.proofs.runs_for_other.Statement.{statement}
 use Rattle.start.proofs.runs_for_other.Tie as tie
 
 in-progress-requires : tie.Need-in-progress-requires
-in-progress-requires c κs = search needs
+in-progress-requires c κs = tt
 
 is-of-requires : tie.Need-is-of-requires
-is-of-requires c κs = search needs
+is-of-requires c κs = tt
 
 returns : tie.Need-returns
 returns c = rw (c .is-of .ensures, ← c .before .before .in-progress .ensures, c .before .if1 .taken)

@@ -5,10 +5,10 @@ use Rattle.start.proofs.start_validation.Statement.{statement}
 use Rattle.start.proofs.start_validation.Tie as tie
 
 place-of-requires : tie.Need-place-of-requires
-place-of-requires c κs = search needs
+place-of-requires c κs = tt
 
 leave-requires : tie.Need-leave-requires
-leave-requires c κs = search needs
+leave-requires c κs = tt
 
 returns : tie.Need-returns
 unfolding start startAt startChecks checked
@@ -21,7 +21,7 @@ enum-known-way : tie.Need-enum-known-way
 enum-known-way c = search needs
 
 leave-requires-2 : tie.Need-leave-requires-2
-leave-requires-2 c κs = search needs
+leave-requires-2 c κs = tt
 
 enum-known-way-2 : tie.Need-enum-known-way-2
 enum-known-way-2 c = search needs

@@ -1,19 +1,18 @@
 use Rattle.validation.specs.Calls.{failedCore}
-use borrow.Author.Needs.{needs}
 use Rattle.submit.proofs.failed_core.Statement.{statement}
 use Rattle.submit.proofs.failed_core.Tie as tie
 
 tried-once-requires : tie.Need-tried-once-requires
-tried-once-requires c κs = search needs
+tried-once-requires c κs = tt
 
 ended-as-requires : tie.Need-ended-as-requires
-ended-as-requires c κs = search needs
+ended-as-requires c κs = tt
 
 saturating-add-requires : tie.Need-saturating-add-requires
-saturating-add-requires c κs = search needs
+saturating-add-requires c κs = tt
 
 with-validation-requires : tie.Need-with-validation-requires
-with-validation-requires c κs = search needs
+with-validation-requires c κs = tt
 
 returns : tie.Need-returns
 unfolding failedCore

@@ -7,20 +7,20 @@ enum-told : tie.Need-enum-told
 enum-told c = search needs
 
 told-requires : tie.Need-told-requires
-told-requires c κs = search needs
+told-requires c κs = tt
 
 enum-told-2 : tie.Need-enum-told-2
 enum-told-2 c = search needs
 
 right-code-requires : tie.Need-right-code-requires
-right-code-requires c κs = search needs
+right-code-requires c κs = tt
 
 returns : tie.Need-returns
 unfolding judge
 returns c = rw (c .right-code .ensures, c .before .before .enum-told2 .given .1, c .before .if1 .taken)
 
 wrong-requires : tie.Need-wrong-requires
-wrong-requires c κs = search needs
+wrong-requires c κs = tt
 
 returns-2 : tie.Need-returns-2
 unfolding judge

@@ -1,26 +1,25 @@
 use Rattle.validation.specs.Calls.{rightCode, succeed}
-use borrow.Author.Needs.{needs}
 use Rattle.submit.proofs.right_code.Statement.{statement}
 use Rattle.submit.proofs.right_code.Tie as tie
 
 full-for-requires : tie.Need-full-for-requires
-full-for-requires c κs = search needs
+full-for-requires c κs = tt
 
 told-requires : tie.Need-told-requires
-told-requires c κs = search needs
+told-requires c κs = tt
 
 returns : tie.Need-returns
 unfolding rightCode succeed
 returns c = rw (c .told .ensures, ← c .before .before .full-for .ensures, c .before .if1 .taken)
 
 succeeded-core-requires : tie.Need-succeeded-core-requires
-succeeded-core-requires c κs = search needs
+succeeded-core-requires c κs = tt
 
 reply-of-requires : tie.Need-reply-of-requires
-reply-of-requires c κs = search needs
+reply-of-requires c κs = tt
 
 succeed-requires : tie.Need-succeed-requires
-succeed-requires c κs = search needs
+succeed-requires c κs = tt
 
 returns-2 : tie.Need-returns-2
 unfolding rightCode succeed

@@ -4,19 +4,19 @@ use Rattle.submit.proofs.submit_validation_code.Statement.{statement}
 use Rattle.submit.proofs.submit_validation_code.Tie as tie
 
 lapse-of-requires : tie.Need-lapse-of-requires
-lapse-of-requires c κs = search needs
+lapse-of-requires c κs = tt
 
 enum-told : tie.Need-enum-told
 enum-told c = search needs
 
 submitted-requires : tie.Need-submitted-requires
-submitted-requires c κs = search needs
+submitted-requires c κs = tt
 
 enum-known-lapse : tie.Need-enum-known-lapse
 enum-known-lapse c = search needs
 
 end-session-requires : tie.Need-end-session-requires
-end-session-requires c κs = search needs
+end-session-requires c κs = tt
 
 returns : tie.Need-returns
 unfolding submit
@@ -27,7 +27,7 @@ unfolding submit
 returns-2 c = rw (c .end-session .ensures, c .before .before .before .before .before .if1 .taken, ← c .before .before .before .before .lapse-of .ensures, c .before .before .lapse .given .1)
 
 leave-requires : tie.Need-leave-requires
-leave-requires c κs = search needs
+leave-requires c κs = tt
 
 returns-3 : tie.Need-returns-3
 unfolding submit

@@ -1,23 +1,22 @@
 use Rattle.validation.specs.Calls.{submitted}
-use borrow.Author.Needs.{needs}
 use Rattle.submit.proofs.submitted.Statement.{statement}
 use Rattle.submit.proofs.submitted.Tie as tie
 
 runs-for-requires : tie.Need-runs-for-requires
-runs-for-requires c κs = search needs
+runs-for-requires c κs = tt
 
 method-at-requires : tie.Need-method-at-requires
-method-at-requires c κs = search needs
+method-at-requires c κs = tt
 
 judge-as-requires : tie.Need-judge-as-requires
-judge-as-requires c κs = search needs
+judge-as-requires c κs = tt
 
 returns : tie.Need-returns
 unfolding submitted
 returns c = rw (c .judge-as .ensures, c .before .method-at .ensures, ← c .before .before .before .before .runs-for .ensures, c .before .before .before .if1 .taken)
 
 told-requires : tie.Need-told-requires
-told-requires c κs = search needs
+told-requires c κs = tt
 
 returns-2 : tie.Need-returns-2
 unfolding submitted

@@ -3,14 +3,13 @@ use mathlib.Core.Bool.{or-false}
 use mathlib.Core.Path.{sym, _∙_}
 use native.Mathlib.Omega.{arith}
 use borrow.Author.Tests.{eq-eqb, ne-eqb}
-use borrow.Author.Needs.{needs}
 use Rattle.text.specs.Utf8.{begins4}
 use Rattle.text.proofs.Ranges.{outside, within-true}
 use Rattle.text.proofs.begins_four.Statement.{statement}
 use Rattle.text.proofs.begins_four.Tie as tie
 
 within-requires : tie.Need-within-requires
-within-requires c κs = search needs
+within-requires c κs = tt
 
 returns : tie.Need-returns
 unfolding begins4
@@ -18,10 +17,10 @@ returns c =
     rw (c .before .if1 .taken, outside 0xF1 0xF3 0xF0 (omega arith)) (simp or-false (c .within .ensures))
 
 within-requires-2 : tie.Need-within-requires-2
-within-requires-2 c κs = search needs
+within-requires-2 c κs = tt
 
 is-tail-requires : tie.Need-is-tail-requires
-is-tail-requires c κs = search needs
+is-tail-requires c κs = tt
 
 returns-2 : tie.Need-returns-2
 unfolding begins4
@@ -32,7 +31,7 @@ returns-2 c =
     rw (ne-eqb a 0xF0 (omega arith), m, ne-eqb a 0xF4 (omega arith)) (simp or-false (c .is-tail .ensures))
 
 within-requires-3 : tie.Need-within-requires-3
-within-requires-3 c κs = search needs
+within-requires-3 c κs = tt
 
 returns-3 : tie.Need-returns-3
 unfolding begins4

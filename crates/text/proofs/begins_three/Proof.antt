@@ -3,14 +3,13 @@ use mathlib.Core.Bool.{or-false}
 use mathlib.Core.Path.{sym, _∙_}
 use native.Mathlib.Omega.{arith}
 use borrow.Author.Tests.{ne-eqb}
-use borrow.Author.Needs.{needs}
 use Rattle.text.specs.Utf8.{begins3}
 use Rattle.text.proofs.Ranges.{outside, within-true}
 use Rattle.text.proofs.begins_three.Statement.{statement}
 use Rattle.text.proofs.begins_three.Tie as tie
 
 within-requires : tie.Need-within-requires
-within-requires c κs = search needs
+within-requires c κs = tt
 
 returns : tie.Need-returns
 unfolding begins3
@@ -18,10 +17,10 @@ returns c =
     rw (c .before .if1 .taken, outside 0xE1 0xEC 0xE0 (omega arith), outside 0xEE 0xEF 0xE0 (omega arith)) (simp or-false (c .within .ensures))
 
 within-requires-2 : tie.Need-within-requires-2
-within-requires-2 c κs = search needs
+within-requires-2 c κs = tt
 
 is-tail-requires : tie.Need-is-tail-requires
-is-tail-requires c κs = search needs
+is-tail-requires c κs = tt
 
 returns-2 : tie.Need-returns-2
 unfolding begins3
@@ -32,7 +31,7 @@ returns-2 c =
     rw (ne-eqb a 0xE0 (omega arith), m, ne-eqb a 0xED (omega arith), outside 0xEE 0xEF a (omega arith)) (simp or-false (c .is-tail .ensures))
 
 within-requires-3 : tie.Need-within-requires-3
-within-requires-3 c κs = search needs
+within-requires-3 c κs = tt
 
 returns-3 : tie.Need-returns-3
 unfolding begins3
@@ -40,10 +39,10 @@ returns-3 c =
     rw (c .before .if3 .taken, outside 0xE1 0xEC 0xED (omega arith), outside 0xEE 0xEF 0xED (omega arith)) (simp or-false (c .within3 .ensures))
 
 within-requires-4 : tie.Need-within-requires-4
-within-requires-4 c κs = search needs
+within-requires-4 c κs = tt
 
 is-tail-requires-2 : tie.Need-is-tail-requires-2
-is-tail-requires-2 c κs = search needs
+is-tail-requires-2 c κs = tt
 
 returns-4 : tie.Need-returns-4
 unfolding begins3

@@ -41,7 +41,7 @@ shared-slice-read-wide : tie.Need-shared-slice-read-wide
 shared-slice-read-wide c = search needs
 
 wide-requires : tie.Need-wide-requires
-wide-requires c κs = search needs
+wide-requires c κs = tt
 
 returns-2 : tie.Need-returns-2
 returns-2 c = rw (at-1 (c .before .before .before .before .before .args .s .now) (omega arith), ← c .before .wide .ensures, le-leb _ _ (c .if2 .taken))
@@ -55,10 +55,10 @@ shared-slice-read-wide-2 : tie.Need-shared-slice-read-wide-2
 shared-slice-read-wide-2 c = search needs
 
 wide-requires-2 : tie.Need-wide-requires-2
-wide-requires-2 c κs = search needs
+wide-requires-2 c κs = tt
 
 is-two-requires : tie.Need-is-two-requires
-is-two-requires c κs = search needs
+is-two-requires c κs = tt
 
 mul-t13 : tie.Need-mul-t13
 mul-t13 c = search needs
@@ -80,10 +80,10 @@ shared-slice-read-wide-3 : tie.Need-shared-slice-read-wide-3
 shared-slice-read-wide-3 c = search needs
 
 wide-requires-3 : tie.Need-wide-requires-3
-wide-requires-3 c κs = search needs
+wide-requires-3 c κs = tt
 
 is-three-requires : tie.Need-is-three-requires
-is-three-requires c κs = search needs
+is-three-requires c κs = tt
 
 mul-t19 : tie.Need-mul-t19
 mul-t19 c = search needs
@@ -111,10 +111,10 @@ shared-slice-read-wide-4 : tie.Need-shared-slice-read-wide-4
 shared-slice-read-wide-4 c = search needs
 
 wide-requires-4 : tie.Need-wide-requires-4
-wide-requires-4 c κs = search needs
+wide-requires-4 c κs = tt
 
 is-four-requires : tie.Need-is-four-requires
-is-four-requires c κs = search needs
+is-four-requires c κs = tt
 
 mul-t28 : tie.Need-mul-t28
 mul-t28 c = search needs

@@ -1,17 +1,16 @@
 -- Test by test, as the grammar has them. Assumes nothing.
-use borrow.Author.Needs.{needs}
 use Rattle.text.specs.Utf8.{utf8-4}
 use Rattle.text.proofs.is_four.Statement.{statement}
 use Rattle.text.proofs.is_four.Tie as tie
 
 begins-four-requires : tie.Need-begins-four-requires
-begins-four-requires c κs = search needs
+begins-four-requires c κs = tt
 
 is-tail-requires : tie.Need-is-tail-requires
-is-tail-requires c κs = search needs
+is-tail-requires c κs = tt
 
 is-tail-requires-2 : tie.Need-is-tail-requires-2
-is-tail-requires-2 c κs = search needs
+is-tail-requires-2 c κs = tt
 
 returns : tie.Need-returns
 unfolding utf8-4

@@ -11,10 +11,10 @@ use Rattle.text.proofs.is_right.Statement.{statement}
 use Rattle.text.proofs.is_right.Tie as tie
 
 clamp-requires : tie.Need-clamp-requires
-clamp-requires c κs = search needs
+clamp-requires c κs = tt
 
 trim-requires : tie.Need-trim-requires
-trim-requires c κs = search needs
+trim-requires c κs = tt
 
 enum-known-t : tie.Need-enum-known-t
 enum-known-t c = search needs
@@ -48,7 +48,7 @@ slice-aggregate-same-all c =
     rw length-take (omega (arith, c .before .before .before .before .before .before .clamp .ensures))
 
 same-all-requires : tie.Need-same-all-requires
-same-all-requires c κs = search needs
+same-all-requires c κs = tt
 
 enum-told : tie.Need-enum-told
 enum-told c = search needs

@@ -6,7 +6,7 @@ use Rattle.text.proofs.is_text.Statement.{statement}
 use Rattle.text.proofs.is_text.Tie as tie
 
 trim-requires : tie.Need-trim-requires
-trim-requires c κs = search needs
+trim-requires c κs = tt
 
 enum-told : tie.Need-enum-told
 enum-told c = search needs

@@ -1,14 +1,13 @@
 -- Test by test, as the grammar has them. Assumes nothing.
-use borrow.Author.Needs.{needs}
 use Rattle.text.specs.Utf8.{utf8-3}
 use Rattle.text.proofs.is_three.Statement.{statement}
 use Rattle.text.proofs.is_three.Tie as tie
 
 begins-three-requires : tie.Need-begins-three-requires
-begins-three-requires c κs = search needs
+begins-three-requires c κs = tt
 
 is-tail-requires : tie.Need-is-tail-requires
-is-tail-requires c κs = search needs
+is-tail-requires c κs = tt
 
 returns : tie.Need-returns
 unfolding utf8-3

@@ -1,14 +1,13 @@
 -- Test by test, as the grammar has them. Assumes nothing.
-use borrow.Author.Needs.{needs}
 use Rattle.text.specs.Utf8.{utf8-2}
 use Rattle.text.proofs.is_two.Statement.{statement}
 use Rattle.text.proofs.is_two.Tie as tie
 
 within-requires : tie.Need-within-requires
-within-requires c κs = search needs
+within-requires c κs = tt
 
 is-tail-requires : tie.Need-is-tail-requires
-is-tail-requires c κs = search needs
+is-tail-requires c κs = tt
 
 returns : tie.Need-returns
 unfolding utf8-2

@@ -29,7 +29,7 @@ part-first-char-end : tie.Need-part-first-char-end Inv-loop μ-loop
 part-first-char-end c = search needs
 
 first-char-requires : tie.Need-first-char-requires Inv-loop μ-loop
-first-char-requires c κs = search needs
+first-char-requires c κs = tt
 
 -- the part that was lent is all that is left
 first : (c : tie.After-first-char Inv-loop μ-loop)

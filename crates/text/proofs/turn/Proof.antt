@@ -1,12 +1,11 @@
 -- Test by test, as the definition has them. Assumes nothing.
 use borrow.Author.Tests.{eq-eqb, ne-eqb}
-use borrow.Author.Needs.{needs}
 use Rattle.text.specs.Steps.{turnOf}
 use Rattle.text.proofs.turn.Statement.{statement}
 use Rattle.text.proofs.turn.Tie as tie
 
 is-white-requires : tie.Need-is-white-requires
-is-white-requires c κs = search needs
+is-white-requires c κs = tt
 
 returns : tie.Need-returns
 unfolding turnOf

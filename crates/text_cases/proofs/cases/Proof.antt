@@ -27,7 +27,7 @@ part-case-end : tie.Need-part-case-end Inv-loop μ-loop
 part-case-end c = search needs
 
 case-requires : tie.Need-case-requires Inv-loop μ-loop
-case-requires c κs = search needs
+case-requires c κs = tt
 
 add-at : tie.Need-add-at Inv-loop μ-loop
 add-at c = search needs

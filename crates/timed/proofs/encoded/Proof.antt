@@ -1,18 +1,17 @@
 use mathlib.Core.Path.{_≡_, ap}
-use borrow.Author.Needs.{needs}
-use Rattle.gate.specs.Gate.{Given}
+use Rattle.definition.specs.Gate.{Given}
 use Rattle.timed.specs.Rounds.{heard}
 use Rattle.timed.proofs.encoded.Statement.{statement}
 use Rattle.timed.proofs.encoded.Tie as tie
 
 encode-phone-validations-requires : tie.Need-encode-phone-validations-requires
-encode-phone-validations-requires c κs = search needs
+encode-phone-validations-requires c κs = tt
 
 record-byte-requires : tie.Need-record-byte-requires
-record-byte-requires c κs = search needs
+record-byte-requires c κs = tt
 
 add-requires : tie.Need-add-requires
-add-requires c κs = search needs
+add-requires c κs = tt
 
 returns : tie.Need-returns
 returns c =

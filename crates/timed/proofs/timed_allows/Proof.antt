@@ -1,4 +1,3 @@
-use borrow.Author.Needs.{needs}
 use mathlib.Core.Path.{_≡_, refl, ap₂, _∙_}
 use Prim.Native.Nat.{_≤_, _-_}
 use denote.Ref.{now}
@@ -18,23 +17,23 @@ abbrev μ-loop : tie.MeasureT-loop
 μ-loop n car bytes method command owner g₀ sum₀ frame class i₀ g sum i = n - i
 
 ready-requires : tie.Need-ready-requires Inv-loop μ-loop
-ready-requires c κs = search needs
+ready-requires c κs = tt
 
 frame-requires : tie.Need-frame-requires Inv-loop μ-loop
-frame-requires c κs = search needs
+frame-requires c κs = tt
 
 class-of-requires : tie.Need-class-of-requires Inv-loop μ-loop
-class-of-requires c κs = search needs
+class-of-requires c κs = tt
 
 loop-holds : tie.Need-loop-holds Inv-loop μ-loop
 unfolding turns
 loop-holds c = (omega arith, refl)
 
 allow-can-tx-requires : tie.Need-allow-can-tx-requires Inv-loop μ-loop
-allow-can-tx-requires c κs = search needs
+allow-can-tx-requires c κs = tt
 
 after-requires : tie.Need-after-requires Inv-loop μ-loop
-after-requires c κs = search needs
+after-requires c κs = tt
 
 add-i : tie.Need-add-i Inv-loop μ-loop
 add-i c = omega (arith, c .before .before .before .loop-test .taken, c .before .before .before .before .before .before .before .before .before .before .before .before .fits .n)

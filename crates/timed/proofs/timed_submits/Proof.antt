@@ -1,4 +1,3 @@
-use borrow.Author.Needs.{needs}
 use mathlib.Core.Path.{_≡_, refl, ap, _∙_}
 use Prim.Native.Nat.{_≤_, _-_}
 use denote.Ref.{now}
@@ -16,23 +15,23 @@ abbrev μ-loop : tie.MeasureT-loop
 μ-loop n car bytes phone method random typed g₀ sum₀ i₀ g sum i = n - i
 
 ready-requires : tie.Need-ready-requires Inv-loop μ-loop
-ready-requires c κs = search needs
+ready-requires c κs = tt
 
 loop-holds : tie.Need-loop-holds Inv-loop μ-loop
 unfolding turns
 loop-holds c = (omega arith, refl)
 
 start-validation-requires : tie.Need-start-validation-requires Inv-loop μ-loop
-start-validation-requires c κs = search needs
+start-validation-requires c κs = tt
 
 after-requires : tie.Need-after-requires Inv-loop μ-loop
-after-requires c κs = search needs
+after-requires c κs = tt
 
 submit-validation-code-requires : tie.Need-submit-validation-code-requires Inv-loop μ-loop
-submit-validation-code-requires c κs = search needs
+submit-validation-code-requires c κs = tt
 
 after-requires-2 : tie.Need-after-requires-2 Inv-loop μ-loop
-after-requires-2 c κs = search needs
+after-requires-2 c κs = tt
 
 add-i : tie.Need-add-i Inv-loop μ-loop
 add-i c = omega (arith, c .before .before .before .before .before .before .loop-test .taken, c .before .before .before .before .before .before .before .before .before .before .before .before .before .before .before .fits .n)

@@ -1,10 +1,9 @@
 use Rattle.lines.specs.Answer.{answer}
-use borrow.Author.Needs.{needs}
 use Rattle.turns.proofs.no_signals.Statement.{statement}
 use Rattle.turns.proofs.no_signals.Tie as tie
 
 no-signals-requires : tie.Need-no-signals-requires
-no-signals-requires c κs = search needs
+no-signals-requires c κs = tt
 
 returns : tie.Need-returns
 unfolding answer

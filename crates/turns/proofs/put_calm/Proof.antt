@@ -3,10 +3,10 @@ use Rattle.turns.proofs.put_calm.Statement.{statement}
 use Rattle.turns.proofs.put_calm.Tie as tie
 
 no-signals-requires : tie.Need-no-signals-requires
-no-signals-requires c κs = search needs
+no-signals-requires c κs = tt
 
 put-signals-requires : tie.Need-put-signals-requires
-put-signals-requires c κs = search needs
+put-signals-requires c κs = tt
 
 same-length : tie.Need-same-length
 same-length c = search needs

@@ -4,10 +4,10 @@ use Rattle.turns.proofs.put_outcome.Statement.{statement}
 use Rattle.turns.proofs.put_outcome.Tie as tie
 
 put-answer-requires : tie.Need-put-answer-requires
-put-answer-requires c κs = search needs
+put-answer-requires c κs = tt
 
 put-signals-requires : tie.Need-put-signals-requires
-put-signals-requires c κs = search needs
+put-signals-requires c κs = tt
 
 same-length : tie.Need-same-length
 same-length c = search needs

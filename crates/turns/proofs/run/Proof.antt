@@ -1,4 +1,4 @@
-use Rattle.gate.specs.Gate.{step}
+use Rattle.definition.specs.Gate.{step}
 use Rattle.turns.specs.Turns.{told}
 use borrow.Author.Needs.{needs}
 use Rattle.turns.proofs.run.Statement.{statement}
@@ -8,103 +8,103 @@ enum-told : tie.Need-enum-told
 enum-told c = search needs
 
 new-call-requires : tie.Need-new-call-requires
-new-call-requires c κs = search needs
+new-call-requires c κs = tt
 
 put-outcome-requires : tie.Need-put-outcome-requires
-put-outcome-requires c κs = search needs
+put-outcome-requires c κs = tt
 
 enum-known-name : tie.Need-enum-known-name
 enum-known-name c = search needs
 
 session-call-requires : tie.Need-session-call-requires
-session-call-requires c κs = search needs
+session-call-requires c κs = tt
 
 put-outcome-requires-2 : tie.Need-put-outcome-requires-2
-put-outcome-requires-2 c κs = search needs
+put-outcome-requires-2 c κs = tt
 
 enum-known-name-2 : tie.Need-enum-known-name-2
 enum-known-name-2 c = search needs
 
 phone-call-requires : tie.Need-phone-call-requires
-phone-call-requires c κs = search needs
+phone-call-requires c κs = tt
 
 put-outcome-requires-3 : tie.Need-put-outcome-requires-3
-put-outcome-requires-3 c κs = search needs
+put-outcome-requires-3 c κs = tt
 
 enum-known-name-3 : tie.Need-enum-known-name-3
 enum-known-name-3 c = search needs
 
 access-call-requires : tie.Need-access-call-requires
-access-call-requires c κs = search needs
+access-call-requires c κs = tt
 
 put-outcome-requires-4 : tie.Need-put-outcome-requires-4
-put-outcome-requires-4 c κs = search needs
+put-outcome-requires-4 c κs = tt
 
 enum-known-name-4 : tie.Need-enum-known-name-4
 enum-known-name-4 c = search needs
 
 probe-call-requires : tie.Need-probe-call-requires
-probe-call-requires c κs = search needs
+probe-call-requires c κs = tt
 
 put-outcome-requires-5 : tie.Need-put-outcome-requires-5
-put-outcome-requires-5 c κs = search needs
+put-outcome-requires-5 c κs = tt
 
 enum-known-name-5 : tie.Need-enum-known-name-5
 enum-known-name-5 c = search needs
 
 note-call-requires : tie.Need-note-call-requires
-note-call-requires c κs = search needs
+note-call-requires c κs = tt
 
 put-outcome-requires-6 : tie.Need-put-outcome-requires-6
-put-outcome-requires-6 c κs = search needs
+put-outcome-requires-6 c κs = tt
 
 enum-known-name-6 : tie.Need-enum-known-name-6
 enum-known-name-6 c = search needs
 
 plain-query-requires : tie.Need-plain-query-requires
-plain-query-requires c κs = search needs
+plain-query-requires c κs = tt
 
 no-signals-requires : tie.Need-no-signals-requires
-no-signals-requires c κs = search needs
+no-signals-requires c κs = tt
 
 put-outcome-requires-7 : tie.Need-put-outcome-requires-7
-put-outcome-requires-7 c κs = search needs
+put-outcome-requires-7 c κs = tt
 
 enum-known-name-7 : tie.Need-enum-known-name-7
 enum-known-name-7 c = search needs
 
 put-long-requires : tie.Need-put-long-requires
-put-long-requires c κs = search needs
+put-long-requires c κs = tt
 
 put-calm-requires : tie.Need-put-calm-requires
-put-calm-requires c κs = search needs
+put-calm-requires c κs = tt
 
 enum-told-2 : tie.Need-enum-told-2
 enum-told-2 c = search needs
 
 set-counters-requires : tie.Need-set-counters-requires
-set-counters-requires c κs = search needs
+set-counters-requires c κs = tt
 
 no-signals-requires-2 : tie.Need-no-signals-requires-2
-no-signals-requires-2 c κs = search needs
+no-signals-requires-2 c κs = tt
 
 put-outcome-requires-8 : tie.Need-put-outcome-requires-8
-put-outcome-requires-8 c κs = search needs
+put-outcome-requires-8 c κs = tt
 
 enum-told-3 : tie.Need-enum-told-3
 enum-told-3 c = search needs
 
 put-gate-requires : tie.Need-put-gate-requires
-put-gate-requires c κs = search needs
+put-gate-requires c κs = tt
 
 not-called-requires : tie.Need-not-called-requires
-not-called-requires c κs = search needs
+not-called-requires c κs = tt
 
 enum-told-4 : tie.Need-enum-told-4
 enum-told-4 c = search needs
 
 not-called-requires-2 : tie.Need-not-called-requires-2
-not-called-requires-2 c κs = search needs
+not-called-requires-2 c κs = tt
 
 same-length : tie.Need-same-length
 same-length c = search needs

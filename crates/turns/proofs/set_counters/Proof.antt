@@ -1,12 +1,11 @@
-use borrow.Author.Needs.{needs}
 use Rattle.turns.proofs.set_counters.Statement.{statement}
 use Rattle.turns.proofs.set_counters.Tie as tie
 
 with-validation-requires : tie.Need-with-validation-requires
-with-validation-requires c κs = search needs
+with-validation-requires c κs = tt
 
 with-probe-requires : tie.Need-with-probe-requires
-with-probe-requires c κs = search needs
+with-probe-requires c κs = tt
 
 returns : tie.Need-returns
 returns c = rw (c .before .with-probe .ensures, c .before .before .with-validation .ensures)

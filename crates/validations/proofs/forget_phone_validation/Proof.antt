@@ -4,7 +4,7 @@ use Rattle.validations.proofs.forget_phone_validation.Statement.{statem
 use Rattle.validations.proofs.forget_phone_validation.Tie as tie
 
 forgetting-requires : tie.Need-forgetting-requires
-forgetting-requires c κs = search needs
+forgetting-requires c κs = tt
 
 returns : tie.Need-returns
 unfolding forget

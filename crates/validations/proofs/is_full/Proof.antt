@@ -5,7 +5,7 @@ use Rattle.validations.proofs.is_full.Statement.{statement}
 use Rattle.validations.proofs.is_full.Tie as tie
 
 count-requires : tie.Need-count-requires
-count-requires c κs = search needs
+count-requires c κs = tt
 
 slice-aggregate-same-bytes : tie.Need-slice-aggregate-same-bytes
 slice-aggregate-same-bytes c = search needs
@@ -14,10 +14,10 @@ slice-aggregate-same-bytes-2 : tie.Need-slice-aggregate-same-bytes-2
 slice-aggregate-same-bytes-2 c = search needs
 
 same-bytes-requires : tie.Need-same-bytes-requires
-same-bytes-requires c κs = search needs
+same-bytes-requires c κs = tt
 
 contains-id-requires : tie.Need-contains-id-requires
-contains-id-requires c κs = search needs
+contains-id-requires c κs = tt
 
 returns : tie.Need-returns
 unfolding isFull

@@ -1,9 +1,8 @@
-use borrow.Author.Needs.{needs}
 use Rattle.validations.proofs.no_validations.Statement.{statement}
 use Rattle.validations.proofs.no_validations.Tie as tie
 
 empty-list-requires : tie.Need-empty-list-requires
-empty-list-requires c κs = search needs
+empty-list-requires c κs = tt
 
 returns : tie.Need-returns
 returns c = rw (← c .empty-list .ensures)

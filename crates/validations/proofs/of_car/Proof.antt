@@ -4,7 +4,7 @@ use Rattle.validations.proofs.of_car.Statement.{statement}
 use Rattle.validations.proofs.of_car.Tie as tie
 
 count-requires : tie.Need-count-requires
-count-requires c κs = search needs
+count-requires c κs = tt
 
 slice-aggregate-same-bytes : tie.Need-slice-aggregate-same-bytes
 slice-aggregate-same-bytes c = search needs
@@ -13,7 +13,7 @@ slice-aggregate-same-bytes-2 : tie.Need-slice-aggregate-same-bytes-2
 slice-aggregate-same-bytes-2 c = search needs
 
 same-bytes-requires : tie.Need-same-bytes-requires
-same-bytes-requires c κs = search needs
+same-bytes-requires c κs = tt
 
 returns : tie.Need-returns
 returns c = rw (← c .before .before .before .before .before .count .ensures, lt-ltb _ _ (c .before .before .before .before .if1 .taken), ← c .same-bytes .ensures)

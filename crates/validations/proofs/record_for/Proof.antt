@@ -4,7 +4,7 @@ use Rattle.validations.proofs.record_for.Statement.{statement}
 use Rattle.validations.proofs.record_for.Tie as tie
 
 encode-phone-validations-requires : tie.Need-encode-phone-validations-requires
-encode-phone-validations-requires c κs = search needs
+encode-phone-validations-requires c κs = tt
 
 returns : tie.Need-returns
 unfolding recordFor

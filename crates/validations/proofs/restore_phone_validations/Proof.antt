@@ -1,22 +1,21 @@
 use Rattle.validations.specs.Store.{restore}
-use borrow.Author.Needs.{needs}
 use Rattle.validations.proofs.restore_phone_validations.Statement.{statement}
 use Rattle.validations.proofs.restore_phone_validations.Tie as tie
 
 decode-phone-validations-requires : tie.Need-decode-phone-validations-requires
-decode-phone-validations-requires c κs = search needs
+decode-phone-validations-requires c κs = tt
 
 with-validations-requires : tie.Need-with-validations-requires
-with-validations-requires c κs = search needs
+with-validations-requires c κs = tt
 
 restore-answer-requires : tie.Need-restore-answer-requires
-restore-answer-requires c κs = search needs
+restore-answer-requires c κs = tt
 
 phone-access-changed-requires : tie.Need-phone-access-changed-requires
-phone-access-changed-requires c κs = search needs
+phone-access-changed-requires c κs = tt
 
 reply-requires : tie.Need-reply-requires
-reply-requires c κs = search needs
+reply-requires c κs = tt
 
 returns : tie.Need-returns
 unfolding restore

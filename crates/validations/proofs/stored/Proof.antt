@@ -1,19 +1,18 @@
 use Rattle.validations.specs.Store.{stored}
-use borrow.Author.Needs.{needs}
 use Rattle.validations.proofs.stored.Statement.{statement}
 use Rattle.validations.proofs.stored.Tie as tie
 
 record-for-requires : tie.Need-record-for-requires
-record-for-requires c κs = search needs
+record-for-requires c κs = tt
 
 store-validations-requires : tie.Need-store-validations-requires
-store-validations-requires c κs = search needs
+store-validations-requires c κs = tt
 
 with-validations-requires : tie.Need-with-validations-requires
-with-validations-requires c κs = search needs
+with-validations-requires c κs = tt
 
 reply-requires : tie.Need-reply-requires
-reply-requires c κs = search needs
+reply-requires c κs = tt
 
 returns : tie.Need-returns
 unfolding stored

@@ -28,7 +28,7 @@ slice-aggregate-car-digest : tie.Need-slice-aggregate-car-digest
 slice-aggregate-car-digest c = sym (length-take-le _ _ (omega arith))
 
 car-digest-requires : tie.Need-car-digest-requires
-car-digest-requires c κs = search needs
+car-digest-requires c κs = tt
 
 slice-aggregate-write-all-3 : tie.Need-slice-aggregate-write-all-3
 slice-aggregate-write-all-3 c = search needs
@@ -40,7 +40,7 @@ add-block-count : tie.Need-add-block-count
 add-block-count c = search needs
 
 block-count-requires : tie.Need-block-count-requires
-block-count-requires c κs = search needs
+block-count-requires c κs = tt
 
 print-decimal-requires-3 : tie.Need-print-decimal-requires-3
 print-decimal-requires-3 c κs = search needs
@@ -49,7 +49,7 @@ slice-aggregate-line : tie.Need-slice-aggregate-line
 slice-aggregate-line c = search needs
 
 line-requires : tie.Need-line-requires
-line-requires c κs = search needs
+line-requires c κs = tt
 
 slice-aggregate-write-all-4 : tie.Need-slice-aggregate-write-all-4
 slice-aggregate-write-all-4 c = search needs

@@ -17,7 +17,7 @@ abbrev μ-loop : tie.MeasureT-loop
 μ-loop b h₀ i₀ t5 h i = 625 - i
 
 initial-requires : tie.Need-initial-requires Inv-loop μ-loop
-initial-requires c κs = search needs
+initial-requires c κs = tt
 
 loop-holds : tie.Need-loop-holds Inv-loop μ-loop
 loop-holds c = (omega arith, c .initial .ensures ∙ none, refl, refl)
@@ -26,7 +26,7 @@ slice-aggregate-hash-blocks : tie.Need-slice-aggregate-hash-blocks Inv-loop μ-l
 slice-aggregate-hash-blocks c = search needs
 
 hash-blocks-requires : tie.Need-hash-blocks-requires Inv-loop μ-loop
-hash-blocks-requires c κs = search needs
+hash-blocks-requires c κs = tt
 
 add-i : tie.Need-add-i Inv-loop μ-loop
 add-i c = search needs
@@ -44,7 +44,7 @@ slice-aggregate-finish : tie.Need-slice-aggregate-finish Inv-loop μ-loop
 slice-aggregate-finish c = search needs
 
 finish-requires : tie.Need-finish-requires Inv-loop μ-loop
-finish-requires c κs = search needs
+finish-requires c κs = tt
 
 returns : tie.Need-returns Inv-loop μ-loop
 returns c =

@@ -11,7 +11,7 @@ use Rattle.items.proofs.bytes.lay.Statement.{statement}
 use Rattle.items.proofs.bytes.lay.Tie as tie
 
 bytes-of-requires : tie.Need-bytes-of-requires
-bytes-of-requires c κs = search needs
+bytes-of-requires c κs = tt
 
 enum-known-laid : tie.Need-enum-known-laid
 enum-known-laid c = search needs

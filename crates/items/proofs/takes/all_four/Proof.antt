@@ -3,7 +3,7 @@ use Rattle.items.proofs.takes.all_four.Statement.{statement}
 use Rattle.items.proofs.takes.all_four.Tie as tie
 
 all-three-requires : tie.Need-all-three-requires
-all-three-requires c κs = search needs
+all-three-requires c κs = tt
 
 returns : tie.Need-returns
 returns c = rw (c .before .if1 .taken, ← c .all-three .ensures)

@@ -3,7 +3,7 @@ use Rattle.items.proofs.takes.all_three.Statement.{statement}
 use Rattle.items.proofs.takes.all_three.Tie as tie
 
 both-requires : tie.Need-both-requires
-both-requires c κs = search needs
+both-requires c κs = tt
 
 returns : tie.Need-returns
 returns c = rw (c .before .if1 .taken, ← c .both .ensures)

@@ -1,12 +1,11 @@
-use borrow.Author.Needs.{needs}
 use Rattle.items.proofs.takes.new_takes.Statement.{statement}
 use Rattle.items.proofs.takes.new_takes.Tie as tie
 
 both-requires : tie.Need-both-requires
-both-requires c κs = search needs
+both-requires c κs = tt
 
 has-beside-requires : tie.Need-has-beside-requires
-has-beside-requires c κs = search needs
+has-beside-requires c κs = tt
 
 returns : tie.Need-returns
 returns c = rw (← c .before .both .ensures, ← c .has-beside .ensures)

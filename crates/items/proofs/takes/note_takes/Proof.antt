@@ -6,40 +6,40 @@ enum-told : tie.Need-enum-told
 enum-told c = search needs
 
 has-exactly-requires : tie.Need-has-exactly-requires
-has-exactly-requires c κs = search needs
+has-exactly-requires c κs = tt
 
 enum-told-2 : tie.Need-enum-told-2
 enum-told-2 c = search needs
 
 has-exactly-requires-2 : tie.Need-has-exactly-requires-2
-has-exactly-requires-2 c κs = search needs
+has-exactly-requires-2 c κs = tt
 
 enum-told-3 : tie.Need-enum-told-3
 enum-told-3 c = search needs
 
 both-requires : tie.Need-both-requires
-both-requires c κs = search needs
+both-requires c κs = tt
 
 has-exactly-requires-3 : tie.Need-has-exactly-requires-3
-has-exactly-requires-3 c κs = search needs
+has-exactly-requires-3 c κs = tt
 
 enum-told-4 : tie.Need-enum-told-4
 enum-told-4 c = search needs
 
 both-requires-2 : tie.Need-both-requires-2
-both-requires-2 c κs = search needs
+both-requires-2 c κs = tt
 
 has-exactly-requires-4 : tie.Need-has-exactly-requires-4
-has-exactly-requires-4 c κs = search needs
+has-exactly-requires-4 c κs = tt
 
 enum-told-5 : tie.Need-enum-told-5
 enum-told-5 c = search needs
 
 both-requires-3 : tie.Need-both-requires-3
-both-requires-3 c κs = search needs
+both-requires-3 c κs = tt
 
 has-exactly-requires-5 : tie.Need-has-exactly-requires-5
-has-exactly-requires-5 c κs = search needs
+has-exactly-requires-5 c κs = tt
 
 returns : tie.Need-returns
 returns c = rw (c .before .enum-told .given .1, ← c .has-exactly .ensures)

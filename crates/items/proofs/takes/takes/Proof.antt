@@ -6,64 +6,64 @@ enum-told : tie.Need-enum-told
 enum-told c = search needs
 
 new-takes-requires : tie.Need-new-takes-requires
-new-takes-requires c κs = search needs
+new-takes-requires c κs = tt
 
 enum-known-name : tie.Need-enum-known-name
 enum-known-name c = search needs
 
 session-takes-requires : tie.Need-session-takes-requires
-session-takes-requires c κs = search needs
+session-takes-requires c κs = tt
 
 enum-known-name-2 : tie.Need-enum-known-name-2
 enum-known-name-2 c = search needs
 
 phone-takes-requires : tie.Need-phone-takes-requires
-phone-takes-requires c κs = search needs
+phone-takes-requires c κs = tt
 
 enum-known-name-3 : tie.Need-enum-known-name-3
 enum-known-name-3 c = search needs
 
 access-takes-requires : tie.Need-access-takes-requires
-access-takes-requires c κs = search needs
+access-takes-requires c κs = tt
 
 enum-known-name-4 : tie.Need-enum-known-name-4
 enum-known-name-4 c = search needs
 
 probe-takes-requires : tie.Need-probe-takes-requires
-probe-takes-requires c κs = search needs
+probe-takes-requires c κs = tt
 
 enum-known-name-5 : tie.Need-enum-known-name-5
 enum-known-name-5 c = search needs
 
 note-takes-requires : tie.Need-note-takes-requires
-note-takes-requires c κs = search needs
+note-takes-requires c κs = tt
 
 enum-known-name-6 : tie.Need-enum-known-name-6
 enum-known-name-6 c = search needs
 
 plain-takes-requires : tie.Need-plain-takes-requires
-plain-takes-requires c κs = search needs
+plain-takes-requires c κs = tt
 
 enum-known-name-7 : tie.Need-enum-known-name-7
 enum-known-name-7 c = search needs
 
 long-takes-requires : tie.Need-long-takes-requires
-long-takes-requires c κs = search needs
+long-takes-requires c κs = tt
 
 enum-told-2 : tie.Need-enum-told-2
 enum-told-2 c = search needs
 
 both-requires : tie.Need-both-requires
-both-requires c κs = search needs
+both-requires c κs = tt
 
 has-exactly-requires : tie.Need-has-exactly-requires
-has-exactly-requires c κs = search needs
+has-exactly-requires c κs = tt
 
 enum-told-3 : tie.Need-enum-told-3
 enum-told-3 c = search needs
 
 has-exactly-requires-2 : tie.Need-has-exactly-requires-2
-has-exactly-requires-2 c κs = search needs
+has-exactly-requires-2 c κs = tt
 
 enum-told-4 : tie.Need-enum-told-4
 enum-told-4 c = search needs

@@ -10,7 +10,7 @@ slice-aggregate-is-word-2 : tie.Need-slice-aggregate-is-word-2
 slice-aggregate-is-word-2 c = search needs
 
 is-word-requires : tie.Need-is-word-requires
-is-word-requires c κs = search needs
+is-word-requires c κs = tt
 
 returns : tie.Need-returns
 unfolding classAt
@@ -23,7 +23,7 @@ slice-aggregate-is-word-4 : tie.Need-slice-aggregate-is-word-4
 slice-aggregate-is-word-4 c = search needs
 
 is-word-requires-2 : tie.Need-is-word-requires-2
-is-word-requires-2 c κs = search needs
+is-word-requires-2 c κs = tt
 
 returns-2 : tie.Need-returns-2
 unfolding classAt

@@ -4,25 +4,25 @@ use Rattle.items.proofs.values.frame.Statement.{statement}
 use Rattle.items.proofs.values.frame.Tie as tie
 
 can-id-of-requires : tie.Need-can-id-of-requires
-can-id-of-requires c κs = search needs
+can-id-of-requires c κs = tt
 
 slice-aggregate-small : tie.Need-slice-aggregate-small
 slice-aggregate-small c = search needs
 
 small-requires : tie.Need-small-requires
-small-requires c κs = search needs
+small-requires c κs = tt
 
 slice-aggregate-small-2 : tie.Need-slice-aggregate-small-2
 slice-aggregate-small-2 c = search needs
 
 small-requires-2 : tie.Need-small-requires-2
-small-requires-2 c κs = search needs
+small-requires-2 c κs = tt
 
 data-of-requires : tie.Need-data-of-requires
-data-of-requires c κs = search needs
+data-of-requires c κs = tt
 
 frame-with-requires : tie.Need-frame-with-requires
-frame-with-requires c κs = search needs
+frame-with-requires c κs = tt
 
 returns : tie.Need-returns
 unfolding frameAt

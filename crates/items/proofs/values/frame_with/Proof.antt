@@ -6,7 +6,7 @@ enum-known-id : tie.Need-enum-known-id
 enum-known-id c = search needs
 
 all-three-requires : tie.Need-all-three-requires
-all-three-requires c κs = search needs
+all-three-requires c κs = tt
 
 enum-told : tie.Need-enum-told
 enum-told c = search needs

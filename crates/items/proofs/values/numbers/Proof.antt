@@ -4,7 +4,7 @@ use Rattle.items.proofs.values.numbers.Statement.{statement}
 use Rattle.items.proofs.values.numbers.Tie as tie
 
 clock-requires : tie.Need-clock-requires
-clock-requires c κs = search needs
+clock-requires c κs = tt
 
 slice-aggregate-word : tie.Need-slice-aggregate-word
 slice-aggregate-word c = search needs
@@ -16,7 +16,7 @@ slice-aggregate-small : tie.Need-slice-aggregate-small
 slice-aggregate-small c = search needs
 
 small-requires : tie.Need-small-requires
-small-requires c κs = search needs
+small-requires c κs = tt
 
 slice-aggregate-word-2 : tie.Need-slice-aggregate-word-2
 slice-aggregate-word-2 c = search needs

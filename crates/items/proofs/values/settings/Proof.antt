@@ -40,10 +40,10 @@ word-requires-6 : tie.Need-word-requires-6
 word-requires-6 c κs = search needs
 
 all-three-requires : tie.Need-all-three-requires
-all-three-requires c κs = search needs
+all-three-requires c κs = tt
 
 all-three-requires-2 : tie.Need-all-three-requires-2
-all-three-requires-2 c κs = search needs
+all-three-requires-2 c κs = tt
 
 cast-t29 : tie.Need-cast-t29
 cast-t29 c = search needs
@@ -64,7 +64,7 @@ cast-t34 : tie.Need-cast-t34
 cast-t34 c = search needs
 
 both-requires : tie.Need-both-requires
-both-requires c κs = search needs
+both-requires c κs = tt
 
 returns : tie.Need-returns
 unfolding settingsAt

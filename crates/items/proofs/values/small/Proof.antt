@@ -9,7 +9,7 @@ use Rattle.items.proofs.values.small.Statement.{statement}
 use Rattle.items.proofs.values.small.Tie as tie
 
 number-of-requires : tie.Need-number-of-requires
-number-of-requires c κs = search needs
+number-of-requires c κs = tt
 
 enum-known-n : tie.Need-enum-known-n
 enum-known-n c = search needs

@@ -4,7 +4,7 @@ use Rattle.items.proofs.values.switch.Statement.{statement}
 use Rattle.items.proofs.values.switch.Tie as tie
 
 flag-of-requires : tie.Need-flag-of-requires
-flag-of-requires c κs = search needs
+flag-of-requires c κs = tt
 
 enum-told : tie.Need-enum-told
 enum-told c = search needs

@@ -7,19 +7,19 @@ slice-aggregate-switch : tie.Need-slice-aggregate-switch
 slice-aggregate-switch c = search needs
 
 switch-requires : tie.Need-switch-requires
-switch-requires c κs = search needs
+switch-requires c κs = tt
 
 slice-aggregate-switch-2 : tie.Need-slice-aggregate-switch-2
 slice-aggregate-switch-2 c = search needs
 
 switch-requires-2 : tie.Need-switch-requires-2
-switch-requires-2 c κs = search needs
+switch-requires-2 c κs = tt
 
 slice-aggregate-switch-3 : tie.Need-slice-aggregate-switch-3
 slice-aggregate-switch-3 c = search needs
 
 switch-requires-3 : tie.Need-switch-requires-3
-switch-requires-3 c κs = search needs
+switch-requires-3 c κs = tt
 
 returns : tie.Need-returns
 unfolding switchesAt

@@ -10,7 +10,7 @@ enum-told : tie.Need-enum-told
 enum-told c = search needs
 
 no-frame-requires : tie.Need-no-frame-requires
-no-frame-requires c κs = search needs
+no-frame-requires c κs = tt
 
 returns : tie.Need-returns
 unfolding frameFrom
@@ -21,7 +21,7 @@ unfolding frameFrom
 returns-2 c = rw (c .before .before .before .before .if1 .taken, c .before .enum-told .given .1, ← c .no-frame .ensures)
 
 no-frame-requires-2 : tie.Need-no-frame-requires-2
-no-frame-requires-2 c κs = search needs
+no-frame-requires-2 c κs = tt
 
 returns-3 : tie.Need-returns-3
 unfolding frameFrom

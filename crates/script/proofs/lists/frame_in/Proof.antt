@@ -7,7 +7,7 @@ use Rattle.script.proofs.lists.frame_in.Statement.{statement}
 use Rattle.script.proofs.lists.frame_in.Tie as tie
 
 slashes-requires : tie.Need-slashes-requires
-slashes-requires c κs = search needs
+slashes-requires c κs = tt
 
 slice-aggregate-can-id-in : tie.Need-slice-aggregate-can-id-in
 slice-aggregate-can-id-in c =
@@ -41,7 +41,7 @@ part-can-id-in-end c =
     omega (arith, s .first ok, s .second ok)
 
 can-id-in-requires : tie.Need-can-id-in-requires
-can-id-in-requires c κs = search needs
+can-id-in-requires c κs = tt
 
 add-data-in : tie.Need-add-data-in
 add-data-in c =
@@ -65,10 +65,10 @@ part-data-in-end : tie.Need-part-data-in-end
 part-data-in-end c = search needs
 
 data-in-requires : tie.Need-data-in-requires
-data-in-requires c κs = search needs
+data-in-requires c κs = tt
 
 frame-from-requires : tie.Need-frame-from-requires
-frame-from-requires c κs = search needs
+frame-from-requires c κs = tt
 
 returns : tie.Need-returns
 unfolding frameIn cutAt
@@ -78,7 +78,7 @@ returns c =
     rw (parts, ok, ← c .before .before .before .can-id-in .ensures, ← c .before .data-in .ensures, ← c .frame-from .ensures)
 
 no-frame-requires : tie.Need-no-frame-requires
-no-frame-requires c κs = search needs
+no-frame-requires c κs = tt
 
 returns-2 : tie.Need-returns-2
 unfolding frameIn cutAt

@@ -7,13 +7,13 @@ enum-known-kind : tie.Need-enum-known-kind
 enum-known-kind c = search needs
 
 with-flag-requires : tie.Need-with-flag-requires
-with-flag-requires c κs = search needs
+with-flag-requires c κs = tt
 
 enum-told : tie.Need-enum-told
 enum-told c = search needs
 
 no-method-requires : tie.Need-no-method-requires
-no-method-requires c κs = search needs
+no-method-requires c κs = tt
 
 returns : tie.Need-returns
 unfolding methodFrom
@@ -24,7 +24,7 @@ unfolding methodFrom
 returns-2 c = rw (c .before .before .before .before .if1 .taken, c .before .enum-told .given .1, ← c .no-method .ensures)
 
 no-method-requires-2 : tie.Need-no-method-requires-2
-no-method-requires-2 c κs = search needs
+no-method-requires-2 c κs = tt
 
 returns-3 : tie.Need-returns-3
 unfolding methodFrom

@@ -7,7 +7,7 @@ use Rattle.script.proofs.lists.method_in.Statement.{statement}
 use Rattle.script.proofs.lists.method_in.Tie as tie
 
 slashes-requires : tie.Need-slashes-requires
-slashes-requires c κs = search needs
+slashes-requires c κs = tt
 
 slice-aggregate-method-id : tie.Need-slice-aggregate-method-id
 slice-aggregate-method-id c =
@@ -17,7 +17,7 @@ slice-aggregate-method-id c =
     sym (length-take-le (s .result .one) v (omega (arith, s .ensures .first ok, s .ensures .second ok)))
 
 method-id-requires : tie.Need-method-id-requires
-method-id-requires c κs = search needs
+method-id-requires c κs = tt
 
 add-kind-in : tie.Need-add-kind-in
 add-kind-in c =
@@ -44,7 +44,7 @@ part-kind-in-end c =
     omega (arith, s .first ok, s .second ok)
 
 kind-in-requires : tie.Need-kind-in-requires
-kind-in-requires c κs = search needs
+kind-in-requires c κs = tt
 
 add-flag-in : tie.Need-add-flag-in
 add-flag-in c =
@@ -68,10 +68,10 @@ part-flag-in-end : tie.Need-part-flag-in-end
 part-flag-in-end c = search needs
 
 flag-in-requires : tie.Need-flag-in-requires
-flag-in-requires c κs = search needs
+flag-in-requires c κs = tt
 
 method-from-requires : tie.Need-method-from-requires
-method-from-requires c κs = search needs
+method-from-requires c κs = tt
 
 returns : tie.Need-returns
 unfolding methodIn cutAt
@@ -82,7 +82,7 @@ returns c =
     rw (parts, ok, ← id .ensures, ← c .before .before .before .kind-in .ensures, ← c .before .flag-in .ensures, ← c .method-from .ensures)
 
 no-method-requires : tie.Need-no-method-requires
-no-method-requires c κs = search needs
+no-method-requires c κs = tt
 
 returns-2 : tie.Need-returns-2
 unfolding methodIn cutAt

@@ -1,9 +1,8 @@
-use borrow.Author.Needs.{needs}
 use Rattle.script.proofs.lists.no_frames.Statement.{statement}
 use Rattle.script.proofs.lists.no_frames.Tie as tie
 
 no-frame-requires : tie.Need-no-frame-requires
-no-frame-requires c κs = search needs
+no-frame-requires c κs = tt
 
 returns : tie.Need-returns
 returns c = rw (c .before .no-frame .ensures)

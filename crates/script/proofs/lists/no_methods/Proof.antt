@@ -1,9 +1,8 @@
-use borrow.Author.Needs.{needs}
 use Rattle.script.proofs.lists.no_methods.Statement.{statement}
 use Rattle.script.proofs.lists.no_methods.Tie as tie
 
 no-method-requires : tie.Need-no-method-requires
-no-method-requires c κs = search needs
+no-method-requires c κs = tt
 
 returns : tie.Need-returns
 returns c = rw (c .before .no-method .ensures)

@@ -6,10 +6,10 @@ use Rattle.script.proofs.lists.slashes.Statement.{statement}
 use Rattle.script.proofs.lists.slashes.Tie as tie
 
 find-requires : tie.Need-find-requires
-find-requires c κs = search needs
+find-requires c κs = tt
 
 no-slashes-requires : tie.Need-no-slashes-requires
-no-slashes-requires c κs = search needs
+no-slashes-requires c κs = tt
 
 returns : tie.Need-returns
 unfolding cutAt
@@ -22,10 +22,10 @@ add-find : tie.Need-add-find
 add-find c = search needs
 
 find-requires-2 : tie.Need-find-requires-2
-find-requires-2 c κs = search needs
+find-requires-2 c κs = tt
 
 no-slashes-requires-2 : tie.Need-no-slashes-requires-2
-no-slashes-requires-2 c κs = search needs
+no-slashes-requires-2 c κs = tt
 
 returns-2 : tie.Need-returns-2
 unfolding cutAt
@@ -39,10 +39,10 @@ add-find-2 : tie.Need-add-find-2
 add-find-2 c = search needs
 
 find-requires-3 : tie.Need-find-requires-3
-find-requires-3 c κs = search needs
+find-requires-3 c κs = tt
 
 no-slashes-requires-3 : tie.Need-no-slashes-requires-3
-no-slashes-requires-3 c κs = search needs
+no-slashes-requires-3 c κs = tt
 
 returns-3 : tie.Need-returns-3
 unfolding cutAt

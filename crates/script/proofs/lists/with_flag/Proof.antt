@@ -12,7 +12,7 @@ enum-told-3 : tie.Need-enum-told-3
 enum-told-3 c = search needs
 
 no-method-requires : tie.Need-no-method-requires
-no-method-requires c κs = search needs
+no-method-requires c κs = tt
 
 returns : tie.Need-returns
 returns c = rw (c .enum-told .given .1)

@@ -11,7 +11,7 @@ use Rattle.script.proofs.values.bytes.Statement.{statement}
 use Rattle.script.proofs.values.bytes.Tie as tie
 
 is-hex-requires : tie.Need-is-hex-requires
-is-hex-requires c κs = search needs
+is-hex-requires c κs = tt
 
 returns : tie.Need-returns
 unfolding laidTo layBytes fitsIn

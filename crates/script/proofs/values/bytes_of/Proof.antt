@@ -4,7 +4,7 @@ use Rattle.script.proofs.values.bytes_of.Statement.{statement}
 use Rattle.script.proofs.values.bytes_of.Tie as tie
 
 item-requires : tie.Need-item-requires
-item-requires c κs = search needs
+item-requires c κs = tt
 
 sub-bytes : tie.Need-sub-bytes
 sub-bytes c = search needs
@@ -16,7 +16,7 @@ part-bytes-end : tie.Need-part-bytes-end
 part-bytes-end c = search needs
 
 bytes-requires : tie.Need-bytes-requires
-bytes-requires c κs = search needs
+bytes-requires c κs = tt
 
 same-length : tie.Need-same-length
 same-length c = search needs

@@ -7,13 +7,13 @@ slice-aggregate-item : tie.Need-slice-aggregate-item
 slice-aggregate-item c = search needs
 
 item-requires : tie.Need-item-requires
-item-requires c κs = search needs
+item-requires c κs = tt
 
 slice-aggregate-item-2 : tie.Need-slice-aggregate-item-2
 slice-aggregate-item-2 c = search needs
 
 item-requires-2 : tie.Need-item-requires-2
-item-requires-2 c κs = search needs
+item-requires-2 c κs = tt
 
 sub-can-id-in : tie.Need-sub-can-id-in
 sub-can-id-in c = search needs
@@ -34,7 +34,7 @@ part-can-id-in-end-2 : tie.Need-part-can-id-in-end-2
 part-can-id-in-end-2 c = search needs
 
 can-id-in-requires : tie.Need-can-id-in-requires
-can-id-in-requires c κs = search needs
+can-id-in-requires c κs = tt
 
 returns : tie.Need-returns
 unfolding shown

@@ -7,7 +7,7 @@ slice-aggregate-item : tie.Need-slice-aggregate-item
 slice-aggregate-item c = search needs
 
 item-requires : tie.Need-item-requires
-item-requires c κs = search needs
+item-requires c κs = tt
 
 sub-car-in : tie.Need-sub-car-in
 sub-car-in c = search needs
@@ -19,7 +19,7 @@ part-car-in-end : tie.Need-part-car-in-end
 part-car-in-end c = search needs
 
 car-in-requires : tie.Need-car-in-requires
-car-in-requires c κs = search needs
+car-in-requires c κs = tt
 
 returns : tie.Need-returns
 unfolding shown

@@ -9,7 +9,7 @@ use Rattle.script.proofs.values.data_in.Statement.{statement}
 use Rattle.script.proofs.values.data_in.Tie as tie
 
 is-hex-requires : tie.Need-is-hex-requires
-is-hex-requires c κs = search needs
+is-hex-requires c κs = tt
 
 slice-aggregate-put-pairs : tie.Need-slice-aggregate-put-pairs
 slice-aggregate-put-pairs c = search needs

@@ -7,7 +7,7 @@ slice-aggregate-item : tie.Need-slice-aggregate-item
 slice-aggregate-item c = search needs
 
 item-requires : tie.Need-item-requires
-item-requires c κs = search needs
+item-requires c κs = tt
 
 sub-data-in : tie.Need-sub-data-in
 sub-data-in c = search needs
@@ -19,7 +19,7 @@ part-data-in-end : tie.Need-part-data-in-end
 part-data-in-end c = search needs
 
 data-in-requires : tie.Need-data-in-requires
-data-in-requires c κs = search needs
+data-in-requires c κs = tt
 
 returns : tie.Need-returns
 unfolding shown

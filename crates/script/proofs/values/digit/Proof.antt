@@ -4,7 +4,7 @@ use Rattle.script.proofs.values.digit.Statement.{statement}
 use Rattle.script.proofs.values.digit.Tie as tie
 
 hex-value-requires : tie.Need-hex-value-requires
-hex-value-requires c κs = search needs
+hex-value-requires c κs = tt
 
 enum-known-v : tie.Need-enum-known-v
 enum-known-v c = search needs

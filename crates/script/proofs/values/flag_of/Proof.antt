@@ -4,7 +4,7 @@ use Rattle.script.proofs.values.flag_of.Statement.{statement}
 use Rattle.script.proofs.values.flag_of.Tie as tie
 
 item-requires : tie.Need-item-requires
-item-requires c κs = search needs
+item-requires c κs = tt
 
 sub-flag-in : tie.Need-sub-flag-in
 sub-flag-in c = search needs
@@ -16,7 +16,7 @@ part-flag-in-end : tie.Need-part-flag-in-end
 part-flag-in-end c = search needs
 
 flag-in-requires : tie.Need-flag-in-requires
-flag-in-requires c κs = search needs
+flag-in-requires c κs = tt
 
 returns : tie.Need-returns
 unfolding shown

@@ -4,7 +4,7 @@ use Rattle.script.proofs.values.is_word.Statement.{statement}
 use Rattle.script.proofs.values.is_word.Tie as tie
 
 item-requires : tie.Need-item-requires
-item-requires c κs = search needs
+item-requires c κs = tt
 
 sub-same-bytes : tie.Need-sub-same-bytes
 sub-same-bytes c = search needs
@@ -16,7 +16,7 @@ part-same-bytes-end : tie.Need-part-same-bytes-end
 part-same-bytes-end c = search needs
 
 same-bytes-requires : tie.Need-same-bytes-requires
-same-bytes-requires c κs = search needs
+same-bytes-requires c κs = tt
 
 returns : tie.Need-returns
 unfolding shown

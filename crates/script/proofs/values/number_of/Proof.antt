@@ -4,7 +4,7 @@ use Rattle.script.proofs.values.number_of.Statement.{statement}
 use Rattle.script.proofs.values.number_of.Tie as tie
 
 item-requires : tie.Need-item-requires
-item-requires c κs = search needs
+item-requires c κs = tt
 
 sub-number-in : tie.Need-sub-number-in
 sub-number-in c = search needs

@@ -11,7 +11,7 @@ working-requires : tie.Need-working-requires
 working-requires c κs = search needs
 
 plus-requires : tie.Need-plus-requires
-plus-requires c κs = search needs
+plus-requires c κs = tt
 
 returns : tie.Need-returns
 returns c =

@@ -38,7 +38,7 @@ element-copy-out-round-2 : tie.Need-element-copy-out-round-2
 element-copy-out-round-2 c = search needs
 
 round-requires : tie.Need-round-requires
-round-requires c κs = search needs
+round-requires c κs = tt
 
 returns : tie.Need-returns
 returns c =

@@ -44,7 +44,7 @@ element-copy-out-mixed-4 : tie.Need-element-copy-out-mixed-4
 element-copy-out-mixed-4 c = search needs
 
 mixed-requires : tie.Need-mixed-requires
-mixed-requires c κs = search needs
+mixed-requires c κs = tt
 
 mul-w : tie.Need-mul-w
 mul-w c = search needs
@@ -65,7 +65,7 @@ element-copy-out-round-2 : tie.Need-element-copy-out-round-2
 element-copy-out-round-2 c = search needs
 
 round-requires : tie.Need-round-requires
-round-requires c κs = search needs
+round-requires c κs = tt
 
 returns : tie.Need-returns
 returns c =

@@ -32,7 +32,7 @@ array-read-add-2 : tie.Need-array-read-add-2 Inv-loop μ-loop
 array-read-add-2 c = search needs
 
 add-requires : tie.Need-add-requires Inv-loop μ-loop
-add-requires c κs = search needs
+add-requires c κs = tt
 
 mul-r : tie.Need-mul-r Inv-loop μ-loop
 mul-r c = search needs

@@ -16,7 +16,7 @@ array-read-temp1-4 : tie.Need-array-read-temp1-4
 array-read-temp1-4 c = search needs
 
 temp1-requires : tie.Need-temp1-requires
-temp1-requires c κs = search needs
+temp1-requires c κs = tt
 
 array-read-temp2 : tie.Need-array-read-temp2
 array-read-temp2 c = search needs
@@ -28,10 +28,10 @@ array-read-temp2-3 : tie.Need-array-read-temp2-3
 array-read-temp2-3 c = search needs
 
 temp2-requires : tie.Need-temp2-requires
-temp2-requires c κs = search needs
+temp2-requires c κs = tt
 
 add-requires : tie.Need-add-requires
-add-requires c κs = search needs
+add-requires c κs = tt
 
 array-read-t15 : tie.Need-array-read-t15
 array-read-t15 c = search needs
@@ -46,7 +46,7 @@ array-read-add : tie.Need-array-read-add
 array-read-add c = search needs
 
 add-requires-2 : tie.Need-add-requires-2
-add-requires-2 c κs = search needs
+add-requires-2 c κs = tt
 
 array-read-t37 : tie.Need-array-read-t37
 array-read-t37 c = search needs

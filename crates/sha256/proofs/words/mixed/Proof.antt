@@ -1,22 +1,21 @@
 -- `words::mixed` meets its contract.
-use borrow.Author.Needs.{needs}
 use Rattle.sha256.proofs.words.mixed.Statement.{statement}
 use Rattle.sha256.proofs.words.mixed.Tie as tie
 
 sig1-requires : tie.Need-sig1-requires
-sig1-requires c κs = search needs
+sig1-requires c κs = tt
 
 add-requires : tie.Need-add-requires
-add-requires c κs = search needs
+add-requires c κs = tt
 
 sig0-requires : tie.Need-sig0-requires
-sig0-requires c κs = search needs
+sig0-requires c κs = tt
 
 add-requires-2 : tie.Need-add-requires-2
-add-requires-2 c κs = search needs
+add-requires-2 c κs = tt
 
 add-requires-3 : tie.Need-add-requires-3
-add-requires-3 c κs = search needs
+add-requires-3 c κs = tt
 
 returns : tie.Need-returns
 returns c =

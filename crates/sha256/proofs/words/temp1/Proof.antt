@@ -1,25 +1,24 @@
 -- `words::temp1` meets its contract.
-use borrow.Author.Needs.{needs}
 use Rattle.sha256.proofs.words.temp1.Statement.{statement}
 use Rattle.sha256.proofs.words.temp1.Tie as tie
 
 sum1-requires : tie.Need-sum1-requires
-sum1-requires c κs = search needs
+sum1-requires c κs = tt
 
 add-requires : tie.Need-add-requires
-add-requires c κs = search needs
+add-requires c κs = tt
 
 ch-requires : tie.Need-ch-requires
-ch-requires c κs = search needs
+ch-requires c κs = tt
 
 add-requires-2 : tie.Need-add-requires-2
-add-requires-2 c κs = search needs
+add-requires-2 c κs = tt
 
 add-requires-3 : tie.Need-add-requires-3
-add-requires-3 c κs = search needs
+add-requires-3 c κs = tt
 
 add-requires-4 : tie.Need-add-requires-4
-add-requires-4 c κs = search needs
+add-requires-4 c κs = tt
 
 returns : tie.Need-returns
 returns c =

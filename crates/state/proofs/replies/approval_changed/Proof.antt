@@ -1,11 +1,10 @@
 -- What `read_only_changed` gives, with one channel sent.
-use borrow.Author.Needs.{needs}
 use Rattle.state.specs.Replies.{readOnlyChanged, approvalChanged}
 use Rattle.state.proofs.replies.approval_changed.Statement.{statement}
 use Rattle.state.proofs.replies.approval_changed.Tie as tie
 
 read-only-changed-requires : tie.Need-read-only-changed-requires
-read-only-changed-requires c κs = search needs
+read-only-changed-requires c κs = tt
 
 returns : tie.Need-returns
 unfolding readOnlyChanged approvalChanged

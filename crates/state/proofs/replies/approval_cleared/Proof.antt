@@ -1,14 +1,13 @@
 -- What `store_validations` gives, with two channels sent.
-use borrow.Author.Needs.{needs}
 use Rattle.state.specs.Replies.{storeValidations, approvalCleared}
 use Rattle.state.proofs.replies.approval_cleared.Statement.{statement}
 use Rattle.state.proofs.replies.approval_cleared.Tie as tie
 
 no-record-requires : tie.Need-no-record-requires
-no-record-requires c κs = search needs
+no-record-requires c κs = tt
 
 store-validations-requires : tie.Need-store-validations-requires
-store-validations-requires c κs = search needs
+store-validations-requires c κs = tt
 
 returns : tie.Need-returns
 unfolding storeValidations approvalCleared

@@ -1,14 +1,13 @@
 -- Only the digits of the challenge and of the gate are written, each by its mark.
-use borrow.Author.Needs.{needs}
 use Rattle.state.specs.Replies.{fill}
 use Rattle.state.proofs.replies.fill.Statement.{statement}
 use Rattle.state.proofs.replies.fill.Tie as tie
 
 code-at-requires : tie.Need-code-at-requires
-code-at-requires c κs = search needs
+code-at-requires c κs = tt
 
 code-at-requires-2 : tie.Need-code-at-requires-2
-code-at-requires-2 c κs = search needs
+code-at-requires-2 c κs = tt
 
 returns : tie.Need-returns
 unfolding fill

@@ -1,14 +1,13 @@
 -- A reply without signals.
-use borrow.Author.Needs.{needs}
 use Rattle.state.specs.Replies.{reply, leave}
 use Rattle.state.proofs.replies.leave.Statement.{statement}
 use Rattle.state.proofs.replies.leave.Tie as tie
 
 no-signals-requires : tie.Need-no-signals-requires
-no-signals-requires c κs = search needs
+no-signals-requires c κs = tt
 
 reply-requires : tie.Need-reply-requires
-reply-requires c κs = search needs
+reply-requires c κs = tt
 
 returns : tie.Need-returns
 unfolding reply leave

@@ -1,17 +1,16 @@
 -- Each channel holds the value for nothing sent.
-use borrow.Author.Needs.{needs}
 use Rattle.state.specs.Replies.{noSignals}
 use Rattle.state.proofs.replies.no_signals.Statement.{statement}
 use Rattle.state.proofs.replies.no_signals.Tie as tie
 
 no-car-requires : tie.Need-no-car-requires
-no-car-requires c κs = search needs
+no-car-requires c κs = tt
 
 no-record-requires : tie.Need-no-record-requires
-no-record-requires c κs = search needs
+no-record-requires c κs = tt
 
 no-challenge-requires : tie.Need-no-challenge-requires
-no-challenge-requires c κs = search needs
+no-challenge-requires c κs = tt
 
 returns : tie.Need-returns
 unfolding noSignals

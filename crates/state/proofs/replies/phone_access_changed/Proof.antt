@@ -1,11 +1,10 @@
 -- What `no_signals` gives, with two channels raised.
-use borrow.Author.Needs.{needs}
 use Rattle.state.specs.Replies.{noSignals, phoneAccessChanged}
 use Rattle.state.proofs.replies.phone_access_changed.Statement.{statement}
 use Rattle.state.proofs.replies.phone_access_changed.Tie as tie
 
 no-signals-requires : tie.Need-no-signals-requires
-no-signals-requires c κs = search needs
+no-signals-requires c κs = tt
 
 returns : tie.Need-returns
 unfolding noSignals phoneAccessChanged

@@ -1,11 +1,10 @@
 -- What `no_signals` gives, with one channel raised and one sent.
-use borrow.Author.Needs.{needs}
 use Rattle.state.specs.Replies.{noSignals, readOnlyChanged}
 use Rattle.state.proofs.replies.read_only_changed.Statement.{statement}
 use Rattle.state.proofs.replies.read_only_changed.Tie as tie
 
 no-signals-requires : tie.Need-no-signals-requires
-no-signals-requires c κs = search needs
+no-signals-requires c κs = tt
 
 returns : tie.Need-returns
 unfolding noSignals readOnlyChanged

@@ -1,11 +1,10 @@
 -- What `phone_access_changed` gives, with one channel sent.
-use borrow.Author.Needs.{needs}
 use Rattle.state.specs.Replies.{phoneAccessChanged, storeValidations}
 use Rattle.state.proofs.replies.store_validations.Statement.{statement}
 use Rattle.state.proofs.replies.store_validations.Tie as tie
 
 phone-access-changed-requires : tie.Need-phone-access-changed-requires
-phone-access-changed-requires c κs = search needs
+phone-access-changed-requires c κs = tt
 
 returns : tie.Need-returns
 unfolding phoneAccessChanged storeValidations

@@ -1,14 +1,13 @@
 -- What `challenge_changed` gives for no challenge, with one channel sent.
-use borrow.Author.Needs.{needs}
 use Rattle.state.specs.Replies.{challengeChanged, validated}
 use Rattle.state.proofs.replies.validated.Statement.{statement}
 use Rattle.state.proofs.replies.validated.Tie as tie
 
 no-challenge-requires : tie.Need-no-challenge-requires
-no-challenge-requires c κs = search needs
+no-challenge-requires c κs = tt
 
 challenge-changed-requires : tie.Need-challenge-changed-requires
-challenge-changed-requires c κs = search needs
+challenge-changed-requires c κs = tt
 
 returns : tie.Need-returns
 unfolding challengeChanged validated

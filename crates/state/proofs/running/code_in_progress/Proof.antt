@@ -1,17 +1,16 @@
 -- The session is tested, then its method's kind.
-use borrow.Author.Needs.{needs}
 use Rattle.state.specs.Running.{codeInProgress}
 use Rattle.state.proofs.running.code_in_progress.Statement.{statement}
 use Rattle.state.proofs.running.code_in_progress.Tie as tie
 
 in-progress-requires : tie.Need-in-progress-requires
-in-progress-requires c κs = search needs
+in-progress-requires c κs = tt
 
 method-at-requires : tie.Need-method-at-requires
-method-at-requires c κs = search needs
+method-at-requires c κs = tt
 
 is-code-requires : tie.Need-is-code-requires
-is-code-requires c κs = search needs
+is-code-requires c κs = tt
 
 returns : tie.Need-returns
 unfolding codeInProgress

@@ -1,11 +1,10 @@
 -- The flag is tested, then the status.
-use borrow.Author.Needs.{needs}
 use Rattle.state.specs.Running.{inProgress}
 use Rattle.state.proofs.running.in_progress.Statement.{statement}
 use Rattle.state.proofs.running.in_progress.Tie as tie
 
 is-running-requires : tie.Need-is-running-requires
-is-running-requires c κs = search needs
+is-running-requires c κs = tt
 
 returns : tie.Need-returns
 unfolding inProgress

@@ -16,7 +16,7 @@ unfolding methodAt
 returns c = rw (lt-ltb _ _ (c .before .if1 .taken))
 
 no-method-requires : tie.Need-no-method-requires
-no-method-requires c κs = search needs
+no-method-requires c κs = tt
 
 returns-2 : tie.Need-returns-2
 unfolding methodAt

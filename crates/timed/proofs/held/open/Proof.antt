@@ -1,15 +1,14 @@
-use borrow.Author.Needs.{needs}
 use Rattle.timed.proofs.held.open.Statement.{statement}
 use Rattle.timed.proofs.held.open.Tie as tie
 
 policy-requires : tie.Need-policy-requires
-policy-requires c κs = search needs
+policy-requires c κs = tt
 
 with-policy-requires : tie.Need-with-policy-requires
-with-policy-requires c κs = search needs
+with-policy-requires c κs = tt
 
 with-paired-requires : tie.Need-with-paired-requires
-with-paired-requires c κs = search needs
+with-paired-requires c κs = tt
 
 returns : tie.Need-returns
 returns c = rw (c .with-paired .ensures, c .before .with-policy .ensures, c .before .before .policy .ensures)

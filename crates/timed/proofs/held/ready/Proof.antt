@@ -3,23 +3,22 @@ use denote.Ref.{now}
 use lib.ListN.{replicate}
 use Rattle.phones.specs.declared.MadeId.{MadeId}
 use Rattle.new_gate.specs.New.{newGate}
-use Rattle.gate.specs.Gate.{Given, step, change, restorePhoneValidations}
+use Rattle.definition.specs.Gate.{Given, step, change, restorePhoneValidations}
 use Rattle.timed.specs.Held.{settings, methodOf, opened, ready}
-use borrow.Author.Needs.{needs}
 use Rattle.timed.proofs.held.ready.Statement.{statement}
 use Rattle.timed.proofs.held.ready.Tie as tie
 
 make-id-requires : tie.Need-make-id-requires
-make-id-requires c κs = search needs
+make-id-requires c κs = tt
 
 new-gate-requires : tie.Need-new-gate-requires
-new-gate-requires c κs = search needs
+new-gate-requires c κs = tt
 
 restore-phone-validations-requires : tie.Need-restore-phone-validations-requires
-restore-phone-validations-requires c κs = search needs
+restore-phone-validations-requires c κs = tt
 
 open-requires : tie.Need-open-requires
-open-requires c κs = search needs
+open-requires c κs = tt
 
 returns : tie.Need-returns
 unfolding ready step

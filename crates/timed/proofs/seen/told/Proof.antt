@@ -12,19 +12,19 @@ enum-known-a : tie.Need-enum-known-a
 enum-known-a c = search needs
 
 reply-requires : tie.Need-reply-requires
-reply-requires c κs = search needs
+reply-requires c κs = tt
 
 add-requires : tie.Need-add-requires
-add-requires c κs = search needs
+add-requires c κs = tt
 
 enum-known-a-2 : tie.Need-enum-known-a-2
 enum-known-a-2 c = search needs
 
 reply-requires-2 : tie.Need-reply-requires-2
-reply-requires-2 c κs = search needs
+reply-requires-2 c κs = tt
 
 add-requires-2 : tie.Need-add-requires-2
-add-requires-2 c κs = search needs
+add-requires-2 c κs = tt
 
 enum-told-3 : tie.Need-enum-told-3
 enum-told-3 c = search needs

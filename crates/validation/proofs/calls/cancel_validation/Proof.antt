@@ -1,20 +1,19 @@
 use Rattle.validation.specs.Calls.{cancel}
-use borrow.Author.Needs.{needs}
 use Rattle.validation.proofs.calls.cancel_validation.Statement.{statement}
 use Rattle.validation.proofs.calls.cancel_validation.Tie as tie
 
 runs-for-requires : tie.Need-runs-for-requires
-runs-for-requires c κs = search needs
+runs-for-requires c κs = tt
 
 end-session-requires : tie.Need-end-session-requires
-end-session-requires c κs = search needs
+end-session-requires c κs = tt
 
 returns : tie.Need-returns
 unfolding cancel
 returns c = rw (c .end-session .ensures, ← c .before .before .runs-for .ensures, c .before .if1 .taken)
 
 leave-requires : tie.Need-leave-requires
-leave-requires c κs = search needs
+leave-requires c κs = tt
 
 returns-2 : tie.Need-returns-2
 unfolding cancel

@@ -1,17 +1,16 @@
 use Rattle.validation.specs.Calls.{isAction}
 use borrow.Author.Tests.{eq-eqb, ne-eqb}
-use borrow.Author.Needs.{needs}
 use Rattle.validation.proofs.calls.is_action.Statement.{statement}
 use Rattle.validation.proofs.calls.is_action.Tie as tie
 
 in-progress-requires : tie.Need-in-progress-requires
-in-progress-requires c κs = search needs
+in-progress-requires c κs = tt
 
 method-at-requires : tie.Need-method-at-requires
-method-at-requires c κs = search needs
+method-at-requires c κs = tt
 
 is-code-requires : tie.Need-is-code-requires
-is-code-requires c κs = search needs
+is-code-requires c κs = tt
 
 returns : tie.Need-returns
 unfolding isAction

@@ -4,19 +4,19 @@ use Rattle.validation.proofs.calls.tick_validation.Statement.{statement
 use Rattle.validation.proofs.calls.tick_validation.Tie as tie
 
 lapse-of-requires : tie.Need-lapse-of-requires
-lapse-of-requires c κs = search needs
+lapse-of-requires c κs = tt
 
 enum-told : tie.Need-enum-told
 enum-told c = search needs
 
 leave-requires : tie.Need-leave-requires
-leave-requires c κs = search needs
+leave-requires c κs = tt
 
 enum-known-lapse : tie.Need-enum-known-lapse
 enum-known-lapse c = search needs
 
 end-session-requires : tie.Need-end-session-requires
-end-session-requires c κs = search needs
+end-session-requires c κs = tt
 
 returns : tie.Need-returns
 unfolding tick

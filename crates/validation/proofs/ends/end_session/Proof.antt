@@ -1,22 +1,21 @@
 use Rattle.validation.specs.Calls.{endSession}
-use borrow.Author.Needs.{needs}
 use Rattle.validation.proofs.ends.end_session.Statement.{statement}
 use Rattle.validation.proofs.ends.end_session.Tie as tie
 
 ended-as-requires : tie.Need-ended-as-requires
-ended-as-requires c κs = search needs
+ended-as-requires c κs = tt
 
 with-session-requires : tie.Need-with-session-requires
-with-session-requires c κs = search needs
+with-session-requires c κs = tt
 
 no-challenge-requires : tie.Need-no-challenge-requires
-no-challenge-requires c κs = search needs
+no-challenge-requires c κs = tt
 
 challenge-changed-requires : tie.Need-challenge-changed-requires
-challenge-changed-requires c κs = search needs
+challenge-changed-requires c κs = tt
 
 finish-requires : tie.Need-finish-requires
-finish-requires c κs = search needs
+finish-requires c κs = tt
 
 returns : tie.Need-returns
 unfolding endSession

@@ -1,10 +1,9 @@
 use Rattle.validation.specs.Calls.{fullFor}
-use borrow.Author.Needs.{needs}
 use Rattle.validation.proofs.ends.full_for.Statement.{statement}
 use Rattle.validation.proofs.ends.full_for.Tie as tie
 
 is-full-requires : tie.Need-is-full-requires
-is-full-requires c κs = search needs
+is-full-requires c κs = tt
 
 returns : tie.Need-returns
 unfolding fullFor

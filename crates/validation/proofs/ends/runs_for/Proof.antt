@@ -1,13 +1,12 @@
 use Rattle.validation.specs.Calls.{runsFor}
-use borrow.Author.Needs.{needs}
 use Rattle.validation.proofs.ends.runs_for.Statement.{statement}
 use Rattle.validation.proofs.ends.runs_for.Tie as tie
 
 in-progress-requires : tie.Need-in-progress-requires
-in-progress-requires c κs = search needs
+in-progress-requires c κs = tt
 
 is-of-requires : tie.Need-is-of-requires
-is-of-requires c κs = search needs
+is-of-requires c κs = tt
 
 returns : tie.Need-returns
 unfolding runsFor

@@ -1,19 +1,18 @@
 use Rattle.validation.specs.Calls.{succeededCore}
-use borrow.Author.Needs.{needs}
 use Rattle.validation.proofs.ends.succeeded_core.Statement.{statement}
 use Rattle.validation.proofs.ends.succeeded_core.Tie as tie
 
 ended-as-requires : tie.Need-ended-as-requires
-ended-as-requires c κs = search needs
+ended-as-requires c κs = tt
 
 with-session-requires : tie.Need-with-session-requires
-with-session-requires c κs = search needs
+with-session-requires c κs = tt
 
 validate-requires : tie.Need-validate-requires
-validate-requires c κs = search needs
+validate-requires c κs = tt
 
 with-validations-requires : tie.Need-with-validations-requires
-with-validations-requires c κs = search needs
+with-validations-requires c κs = tt
 
 returns : tie.Need-returns
 unfolding succeededCore

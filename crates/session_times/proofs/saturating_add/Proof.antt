@@ -1,9 +1,9 @@
 -- A sum below one of its parts went past 2^64.
 use native.Mathlib.Omega.{arith}
 use borrow.Author.Needs.{needs}
-use Rattle.session.proofs.Laws.{sum-fits, sum-past}
-use Rattle.session.proofs.saturating_add.Statement.{statement}
-use Rattle.session.proofs.saturating_add.Tie as tie
+use Rattle.session_times.proofs.Laws.{sum-fits, sum-past}
+use Rattle.session_times.proofs.saturating_add.Statement.{statement}
+use Rattle.session_times.proofs.saturating_add.Tie as tie
 
 wrapping-add-u64-requires : tie.Need-wrapping-add-u64-requires
 wrapping-add-u64-requires c κs = search needs

@@ -1,13 +1,12 @@
-use Rattle.can_access.specs.Approval.{declareProduction}
-use borrow.Author.Needs.{needs}
-use Rattle.can_access.proofs.declare_production_build.Statement.{statement}
-use Rattle.can_access.proofs.declare_production_build.Tie as tie
+use Rattle.dev_lock.specs.DevLock.{declareProduction}
+use Rattle.dev_lock.proofs.declare_production_build.Statement.{statement}
+use Rattle.dev_lock.proofs.declare_production_build.Tie as tie
 
 with-access-requires : tie.Need-with-access-requires
-with-access-requires c κs = search needs
+with-access-requires c κs = tt
 
 changed-requires : tie.Need-changed-requires
-changed-requires c κs = search needs
+changed-requires c κs = tt
 
 returns : tie.Need-returns
 unfolding declareProduction

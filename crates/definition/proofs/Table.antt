@@ -34,6 +34,7 @@ use Rattle.range.specs.Range as Range
 use Rattle.state.specs.Replies as Replies
 use Rattle.policy.specs.Policy as Policy
 use Rattle.can_access.specs.Approval as Access
+use Rattle.dev_lock.specs.DevLock as DevLock
 use Rattle.policy_changes.specs.Changes as Changes
 use Rattle.car_identity.specs.CarIdentity as CarIdentity
 use Rattle.can.specs.Can as Can
@@ -43,6 +44,7 @@ use Rattle.validations.specs.Store as Store
 use Rattle.probe_window.specs.Window as Window
 use Rattle.can_probe.specs.Calls as Probe
 use Rattle.can_tx.specs.Tx as Tx
+use Rattle.session_times.specs.Times as Times
 use Rattle.session.specs.Session as Session
 use Rattle.validation.specs.Calls as Validation
 use Rattle.methods.specs.Notes as Methods
@@ -50,8 +52,8 @@ use Rattle.answers.specs.Answers as Answers
 use Rattle.answers.specs.Query as Query
 use Rattle.answers.specs.Query.{Reply, plain, sessionFor}
 use Rattle.new_gate.specs.New as New
-use Rattle.gate.specs.Gate.{Call, newGateCall, startValidation, submitValidationCode, change, ask, Change, tickValidation, openIdentityProbe, allowCanTx, heardCanFrame, restorePhoneValidations, Given, step}
-use Rattle.gate.specs.Gate as Gate
+use Rattle.definition.specs.Gate.{Call, newGateCall, startValidation, submitValidationCode, change, ask, Change, tickValidation, openIdentityProbe, allowCanTx, heardCanFrame, restorePhoneValidations, Given, step}
+use Rattle.definition.specs.Gate as Gate
 
 -- ---- the cases' gate: 4 digits, 3 tries, 60,000, 30,000 and 10,000 ms, one method of code entry, the car known
 
@@ -244,7 +246,7 @@ unfolding Policy.reason Changes.changed Access.ofOtherCar Access.approvedAs Acce
 openAccess3 = tt
 
 unfoldable openAccess4 : Unit {0}
-unfolding Access.knownOrNone Access.restoreApproval Access.setDevUnlocked Access.declareProduction CarIdentity.confirmPlatform
+unfolding Access.knownOrNone Access.restoreApproval DevLock.setDevUnlocked DevLock.declareProduction CarIdentity.confirmPlatform
 openAccess4 = tt
 
 unfoldable openAccess5 : Unit {0}
@@ -284,7 +286,7 @@ unfolding Tx.allowPlatform Tx.allowsCommand Tx.allow Probe.heard
 openProbe4 = tt
 
 unfoldable openSessions1 : Unit {0}
-unfolding Session.saturatingAdd Session.secondsTo Session.secondsOf Session.replyOf Session.endedAs Session.triedOnce
+unfolding Times.saturatingAdd Times.secondsTo Session.secondsOf Session.replyOf Session.endedAs Session.triedOnce
 openSessions1 = tt
 
 unfoldable openSessions2 : Unit {0}
@@ -292,7 +294,7 @@ unfolding Session.isOf Session.lostReadWrite Session.noteAt Session.cannotGoOn S
 openSessions2 = tt
 
 unfoldable openSessions3 : Unit {0}
-unfolding Session.placeOf Session.nextNumber Validation.checked Validation.clear Validation.endSession Validation.tick
+unfolding Session.placeOf Times.nextNumber Validation.checked Validation.clear Validation.endSession Validation.tick
 openSessions3 = tt
 
 unfoldable openSessions4 : Unit {0}

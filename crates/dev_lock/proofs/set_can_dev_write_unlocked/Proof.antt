@@ -1,20 +1,19 @@
-use Rattle.can_access.specs.Approval.{setDevUnlocked}
-use borrow.Author.Needs.{needs}
-use Rattle.can_access.proofs.set_can_dev_write_unlocked.Statement.{statement}
-use Rattle.can_access.proofs.set_can_dev_write_unlocked.Tie as tie
+use Rattle.dev_lock.specs.DevLock.{setDevUnlocked}
+use Rattle.dev_lock.proofs.set_can_dev_write_unlocked.Statement.{statement}
+use Rattle.dev_lock.proofs.set_can_dev_write_unlocked.Tie as tie
 
 leave-requires : tie.Need-leave-requires
-leave-requires c κs = search needs
+leave-requires c κs = tt
 
 returns : tie.Need-returns
 unfolding setDevUnlocked
 returns c = rw (c .leave .ensures, c .before .if1 .taken)
 
 with-access-requires : tie.Need-with-access-requires
-with-access-requires c κs = search needs
+with-access-requires c κs = tt
 
 changed-requires : tie.Need-changed-requires
-changed-requires c κs = search needs
+changed-requires c κs = tt
 
 returns-2 : tie.Need-returns-2
 unfolding setDevUnlocked

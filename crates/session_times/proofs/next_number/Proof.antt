@@ -1,8 +1,8 @@
 use borrow.Author.Needs.{needs}
-use Rattle.session.specs.Session.{nextNumber}
+use Rattle.session_times.specs.Times.{nextNumber}
 use borrow.Author.Tests.{eq-eqb, ne-eqb}
-use Rattle.session.proofs.next_number.Statement.{statement}
-use Rattle.session.proofs.next_number.Tie as tie
+use Rattle.session_times.proofs.next_number.Statement.{statement}
+use Rattle.session_times.proofs.next_number.Tie as tie
 
 wrapping-add-u32-requires : tie.Need-wrapping-add-u32-requires
 wrapping-add-u32-requires c κs = search needs

@@ -1,7 +1,7 @@
-use Rattle.session.proofs.Laws.{seconds-are}
+use Rattle.session_times.proofs.Laws.{seconds-are}
 use native.Mathlib.Omega.{arith}
-use Rattle.session.proofs.seconds_to.Statement.{statement}
-use Rattle.session.proofs.seconds_to.Tie as tie
+use Rattle.session_times.proofs.seconds_to.Statement.{statement}
+use Rattle.session_times.proofs.seconds_to.Tie as tie
 
 returns : tie.Need-returns
 returns c = seconds-are _ _ 0 (omega arith)

@@ -22,6 +22,7 @@ use Rattle.state.specs.Answers.{Numbered, numbered}
 use Rattle.state.specs.Replies.{noSignals, noCode, fill}
 use Rattle.range.specs.Range.{served}
 use Rattle.can_access.specs.Approval as Access
+use Rattle.dev_lock.specs.DevLock as DevLock
 use Rattle.car_identity.specs.CarIdentity as CarIdentity
 use Rattle.can.specs.Can as Can
 use Rattle.pairing.specs.Pairing as Pairing
@@ -100,8 +101,8 @@ changed c (restorePhoneValidations bytes) = Store.restore c bytes
 changed c approveCanReadWrite = Access.approve c
 changed c revokeCanReadWriteApproval = Access.revokeApproval c
 changed c (restoreCanReadWriteApproval approval) = Access.restoreApproval c approval
-changed c (setCanDevWriteUnlocked unlocked) = Access.setDevUnlocked c unlocked
-changed c declareProductionBuild = Access.declareProduction c
+changed c (setCanDevWriteUnlocked unlocked) = DevLock.setDevUnlocked c unlocked
+changed c declareProductionBuild = DevLock.declareProduction c
 changed c confirmCarIdentity = CarIdentity.confirmPlatform c
 changed c revokeCarIdentity = CarIdentity.revokePlatform c
 changed c (confirmCarFingerprint fingerprint) = CarIdentity.confirmFingerprint c fingerprint
