@@ -1,5 +1,4 @@
 use Rattle.items.specs.Bytes.{lentBytes}
-use borrow.Author.Needs.{needs}
 use Rattle.asks.proofs.plain_query.Statement.{statement}
 use Rattle.asks.proofs.plain_query.Tie as tie
 
@@ -7,103 +6,103 @@ lent-requires : tie.Need-lent-requires
 lent-requires c κs = tt
 
 enum-told : tie.Need-enum-told
-enum-told c = search needs
+enum-told c = c .match .keys1
 
 is-can-read-only-requires : tie.Need-is-can-read-only-requires
 is-can-read-only-requires c κs = tt
 
 enum-told-2 : tie.Need-enum-told-2
-enum-told-2 c = search needs
+enum-told-2 c = c .match .keys2
 
 can-read-only-reason-requires : tie.Need-can-read-only-reason-requires
 can-read-only-reason-requires c κs = tt
 
 enum-told-3 : tie.Need-enum-told-3
-enum-told-3 c = search needs
+enum-told-3 c = c .match .keys3
 
 is-car-identity-confirmed-requires : tie.Need-is-car-identity-confirmed-requires
 is-car-identity-confirmed-requires c κs = tt
 
 enum-told-4 : tie.Need-enum-told-4
-enum-told-4 c = search needs
+enum-told-4 c = c .match .keys4
 
 is-car-fingerprint-confirmed-requires : tie.Need-is-car-fingerprint-confirmed-requires
 is-car-fingerprint-confirmed-requires c κs = tt
 
 enum-told-5 : tie.Need-enum-told-5
-enum-told-5 c = search needs
+enum-told-5 c = c .match .keys5
 
 has-can-dev-write-lock-requires : tie.Need-has-can-dev-write-lock-requires
 has-can-dev-write-lock-requires c κs = tt
 
 enum-told-6 : tie.Need-enum-told-6
-enum-told-6 c = search needs
+enum-told-6 c = c .match .keys6
 
 is-can-dev-write-unlocked-requires : tie.Need-is-can-dev-write-unlocked-requires
 is-can-dev-write-unlocked-requires c κs = tt
 
 enum-told-7 : tie.Need-enum-told-7
-enum-told-7 c = search needs
+enum-told-7 c = c .match .keys7
 
 platform-id-requires : tie.Need-platform-id-requires
 platform-id-requires c κs = tt
 
 enum-told-8 : tie.Need-enum-told-8
-enum-told-8 c = search needs
+enum-told-8 c = c .match .keys8
 
 is-can-logging-requires : tie.Need-is-can-logging-requires
 is-can-logging-requires c κs = tt
 
 enum-told-9 : tie.Need-enum-told-9
-enum-told-9 c = search needs
+enum-told-9 c = c .match .keys9
 
 is-can-fd-bus-requires : tie.Need-is-can-fd-bus-requires
 is-can-fd-bus-requires c κs = tt
 
 enum-told-10 : tie.Need-enum-told-10
-enum-told-10 c = search needs
+enum-told-10 c = c .match .keys10
 
 is-can-bus-read-only-requires : tie.Need-is-can-bus-read-only-requires
 is-can-bus-read-only-requires c κs = tt
 
 enum-told-11 : tie.Need-enum-told-11
-enum-told-11 c = search needs
+enum-told-11 c = c .match .keys11
 
 is-can-bus-listen-only-requires : tie.Need-is-can-bus-listen-only-requires
 is-can-bus-listen-only-requires c κs = tt
 
 enum-told-12 : tie.Need-enum-told-12
-enum-told-12 c = search needs
+enum-told-12 c = c .match .keys12
 
 is-phone-paired-requires : tie.Need-is-phone-paired-requires
 is-phone-paired-requires c κs = tt
 
 enum-told-13 : tie.Need-enum-told-13
-enum-told-13 c = search needs
+enum-told-13 c = c .match .keys13
 
 paired-phone-count-requires : tie.Need-paired-phone-count-requires
 paired-phone-count-requires c κs = tt
 
 enum-told-14 : tie.Need-enum-told-14
-enum-told-14 c = search needs
+enum-told-14 c = c .match .keys14
 
 ble-max-bonded-phones-requires : tie.Need-ble-max-bonded-phones-requires
 ble-max-bonded-phones-requires c κs = tt
 
 enum-told-15 : tie.Need-enum-told-15
-enum-told-15 c = search needs
+enum-told-15 c = c .match .keys15
 
 is-phone-validated-requires : tie.Need-is-phone-validated-requires
 is-phone-validated-requires c κs = tt
 
 enum-told-16 : tie.Need-enum-told-16
-enum-told-16 c = search needs
+enum-told-16 c = c .match .keys16
 
 car-has-validated-phone-requires : tie.Need-car-has-validated-phone-requires
 car-has-validated-phone-requires c κs = tt
 
 enum-told-17 : tie.Need-enum-told-17
-enum-told-17 c = search needs
+enum-told-17 c = c .match .keys17
 
 session-for-requires : tie.Need-session-for-requires
 session-for-requires c κs = tt

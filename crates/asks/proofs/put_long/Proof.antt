@@ -4,7 +4,7 @@ use Rattle.asks.proofs.put_long.Statement.{statement}
 use Rattle.asks.proofs.put_long.Tie as tie
 
 enum-told : tie.Need-enum-told
-enum-told c = search needs
+enum-told c = c .match .keys1
 
 can-read-write-approval-requires : tie.Need-can-read-write-approval-requires
 can-read-write-approval-requires c κs = tt
@@ -13,7 +13,7 @@ put-approval-requires : tie.Need-put-approval-requires
 put-approval-requires c κs = tt
 
 enum-told-2 : tie.Need-enum-told-2
-enum-told-2 c = search needs
+enum-told-2 c = c .match .keys2
 
 can-access-state-requires : tie.Need-can-access-state-requires
 can-access-state-requires c κs = tt
@@ -22,7 +22,7 @@ put-access-requires : tie.Need-put-access-requires
 put-access-requires c κs = tt
 
 enum-told-3 : tie.Need-enum-told-3
-enum-told-3 c = search needs
+enum-told-3 c = c .match .keys3
 
 list-paired-phones-requires : tie.Need-list-paired-phones-requires
 list-paired-phones-requires c κs = tt
@@ -31,7 +31,7 @@ put-phones-listed-requires : tie.Need-put-phones-listed-requires
 put-phones-listed-requires c κs = tt
 
 enum-told-4 : tie.Need-enum-told-4
-enum-told-4 c = search needs
+enum-told-4 c = c .match .keys4
 
 lent-requires : tie.Need-lent-requires
 lent-requires c κs = tt
@@ -43,7 +43,7 @@ put-trust-requires : tie.Need-put-trust-requires
 put-trust-requires c κs = tt
 
 enum-told-5 : tie.Need-enum-told-5
-enum-told-5 c = search needs
+enum-told-5 c = c .match .keys5
 
 ble-peer-requires : tie.Need-ble-peer-requires
 ble-peer-requires c κs = tt
@@ -52,7 +52,7 @@ put-peer-requires : tie.Need-put-peer-requires
 put-peer-requires c κs = tt
 
 enum-told-6 : tie.Need-enum-told-6
-enum-told-6 c = search needs
+enum-told-6 c = c .match .keys6
 
 phone-access-state-requires : tie.Need-phone-access-state-requires
 phone-access-state-requires c κs = tt
@@ -61,7 +61,7 @@ put-phone-access-requires : tie.Need-put-phone-access-requires
 put-phone-access-requires c κs = tt
 
 enum-told-7 : tie.Need-enum-told-7
-enum-told-7 c = search needs
+enum-told-7 c = c .match .keys7
 
 validation-methods-requires : tie.Need-validation-methods-requires
 validation-methods-requires c κs = tt
@@ -70,7 +70,7 @@ put-methods-requires : tie.Need-put-methods-requires
 put-methods-requires c κs = tt
 
 enum-told-8 : tie.Need-enum-told-8
-enum-told-8 c = search needs
+enum-told-8 c = c .match .keys8
 
 current-validation-challenge-requires : tie.Need-current-validation-challenge-requires
 current-validation-challenge-requires c κs = tt
@@ -79,7 +79,7 @@ put-challenge-requires : tie.Need-put-challenge-requires
 put-challenge-requires c κs = tt
 
 enum-told-9 : tie.Need-enum-told-9
-enum-told-9 c = search needs
+enum-told-9 c = c .match .keys9
 
 encode-phone-validations-requires : tie.Need-encode-phone-validations-requires
 encode-phone-validations-requires c κs = tt

@@ -1,52 +1,51 @@
 use Rattle.items.specs.Bytes.{lentBytes}
-use borrow.Author.Needs.{needs}
 use Rattle.calls.proofs.access_call.Statement.{statement}
 use Rattle.calls.proofs.access_call.Tie as tie
 
 enum-told : tie.Need-enum-told
-enum-told c = search needs
+enum-told c = c .match .keys1
 
 approve-can-read-write-requires : tie.Need-approve-can-read-write-requires
 approve-can-read-write-requires c κs = tt
 
 enum-told-2 : tie.Need-enum-told-2
-enum-told-2 c = search needs
+enum-told-2 c = c .match .keys2
 
 revoke-can-read-write-approval-requires : tie.Need-revoke-can-read-write-approval-requires
 revoke-can-read-write-approval-requires c κs = tt
 
 enum-told-3 : tie.Need-enum-told-3
-enum-told-3 c = search needs
+enum-told-3 c = c .match .keys3
 
 restore-can-read-write-approval-requires : tie.Need-restore-can-read-write-approval-requires
 restore-can-read-write-approval-requires c κs = tt
 
 enum-told-4 : tie.Need-enum-told-4
-enum-told-4 c = search needs
+enum-told-4 c = c .match .keys4
 
 set-can-dev-write-unlocked-requires : tie.Need-set-can-dev-write-unlocked-requires
 set-can-dev-write-unlocked-requires c κs = tt
 
 enum-told-5 : tie.Need-enum-told-5
-enum-told-5 c = search needs
+enum-told-5 c = c .match .keys5
 
 declare-production-build-requires : tie.Need-declare-production-build-requires
 declare-production-build-requires c κs = tt
 
 enum-told-6 : tie.Need-enum-told-6
-enum-told-6 c = search needs
+enum-told-6 c = c .match .keys6
 
 confirm-car-identity-requires : tie.Need-confirm-car-identity-requires
 confirm-car-identity-requires c κs = tt
 
 enum-told-7 : tie.Need-enum-told-7
-enum-told-7 c = search needs
+enum-told-7 c = c .match .keys7
 
 revoke-car-identity-requires : tie.Need-revoke-car-identity-requires
 revoke-car-identity-requires c κs = tt
 
 enum-told-8 : tie.Need-enum-told-8
-enum-told-8 c = search needs
+enum-told-8 c = c .match .keys8
 
 lent-requires : tie.Need-lent-requires
 lent-requires c κs = tt
@@ -55,7 +54,7 @@ confirm-car-fingerprint-requires : tie.Need-confirm-car-fingerprint-requires
 confirm-car-fingerprint-requires c κs = tt
 
 enum-told-9 : tie.Need-enum-told-9
-enum-told-9 c = search needs
+enum-told-9 c = c .match .keys9
 
 set-can-read-only-requires : tie.Need-set-can-read-only-requires
 set-can-read-only-requires c κs = tt

@@ -3,25 +3,25 @@ use Rattle.calls.proofs.note_call.Statement.{statement}
 use Rattle.calls.proofs.note_call.Tie as tie
 
 enum-told : tie.Need-enum-told
-enum-told c = search needs
+enum-told c = c .match .keys1
 
 note-platform-id-requires : tie.Need-note-platform-id-requires
 note-platform-id-requires c κs = tt
 
 enum-told-2 : tie.Need-enum-told-2
-enum-told-2 c = search needs
+enum-told-2 c = c .match .keys2
 
 note-can-logging-requires : tie.Need-note-can-logging-requires
 note-can-logging-requires c κs = tt
 
 enum-told-3 : tie.Need-enum-told-3
-enum-told-3 c = search needs
+enum-told-3 c = c .match .keys3
 
 note-can-fd-bus-requires : tie.Need-note-can-fd-bus-requires
 note-can-fd-bus-requires c κs = tt
 
 enum-told-4 : tie.Need-enum-told-4
-enum-told-4 c = search needs
+enum-told-4 c = c .match .keys4
 
 cast-note-method-available : tie.Need-cast-note-method-available
 cast-note-method-available c = search needs
@@ -30,7 +30,7 @@ note-method-available-requires : tie.Need-note-method-available-requires
 note-method-available-requires c κs = tt
 
 enum-told-5 : tie.Need-enum-told-5
-enum-told-5 c = search needs
+enum-told-5 c = c .match .keys5
 
 cast-note-method-can-continue : tie.Need-cast-note-method-can-continue
 cast-note-method-can-continue c = search needs

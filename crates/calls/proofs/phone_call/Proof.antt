@@ -1,5 +1,4 @@
 use Rattle.items.specs.Bytes.{lentBytes}
-use borrow.Author.Needs.{needs}
 use Rattle.calls.proofs.phone_call.Statement.{statement}
 use Rattle.calls.proofs.phone_call.Tie as tie
 
@@ -7,37 +6,37 @@ lent-requires : tie.Need-lent-requires
 lent-requires c κs = tt
 
 enum-told : tie.Need-enum-told
-enum-told c = search needs
+enum-told c = c .match .keys1
 
 add-paired-phone-requires : tie.Need-add-paired-phone-requires
 add-paired-phone-requires c κs = tt
 
 enum-told-2 : tie.Need-enum-told-2
-enum-told-2 c = search needs
+enum-told-2 c = c .match .keys2
 
 remove-paired-phone-requires : tie.Need-remove-paired-phone-requires
 remove-paired-phone-requires c κs = tt
 
 enum-told-3 : tie.Need-enum-told-3
-enum-told-3 c = search needs
+enum-told-3 c = c .match .keys3
 
 clear-paired-phones-requires : tie.Need-clear-paired-phones-requires
 clear-paired-phones-requires c κs = tt
 
 enum-told-4 : tie.Need-enum-told-4
-enum-told-4 c = search needs
+enum-told-4 c = c .match .keys4
 
 forget-phone-validation-requires : tie.Need-forget-phone-validation-requires
 forget-phone-validation-requires c κs = tt
 
 enum-told-5 : tie.Need-enum-told-5
-enum-told-5 c = search needs
+enum-told-5 c = c .match .keys5
 
 prune-phone-validations-requires : tie.Need-prune-phone-validations-requires
 prune-phone-validations-requires c κs = tt
 
 enum-told-6 : tie.Need-enum-told-6
-enum-told-6 c = search needs
+enum-told-6 c = c .match .keys6
 
 lent-requires-2 : tie.Need-lent-requires-2
 lent-requires-2 c κs = tt
@@ -46,7 +45,7 @@ restore-phone-validations-requires : tie.Need-restore-phone-validations-requires
 restore-phone-validations-requires c κs = tt
 
 enum-told-7 : tie.Need-enum-told-7
-enum-told-7 c = search needs
+enum-told-7 c = c .match .keys7
 
 set-ble-peer-requires : tie.Need-set-ble-peer-requires
 set-ble-peer-requires c κs = tt

@@ -1,22 +1,21 @@
 use Rattle.items.specs.Bytes.{lentBytes}
-use borrow.Author.Needs.{needs}
 use Rattle.calls.proofs.probe_call.Statement.{statement}
 use Rattle.calls.proofs.probe_call.Tie as tie
 
 enum-told : tie.Need-enum-told
-enum-told c = search needs
+enum-told c = c .match .keys1
 
 open-identity-probe-requires : tie.Need-open-identity-probe-requires
 open-identity-probe-requires c κs = tt
 
 enum-told-2 : tie.Need-enum-told-2
-enum-told-2 c = search needs
+enum-told-2 c = c .match .keys2
 
 close-identity-probe-requires : tie.Need-close-identity-probe-requires
 close-identity-probe-requires c κs = tt
 
 enum-told-3 : tie.Need-enum-told-3
-enum-told-3 c = search needs
+enum-told-3 c = c .match .keys3
 
 lent-requires : tie.Need-lent-requires
 lent-requires c κs = tt
@@ -25,7 +24,7 @@ allow-can-tx-requires : tie.Need-allow-can-tx-requires
 allow-can-tx-requires c κs = tt
 
 enum-told-4 : tie.Need-enum-told-4
-enum-told-4 c = search needs
+enum-told-4 c = c .match .keys4
 
 heard-can-frame-requires : tie.Need-heard-can-frame-requires
 heard-can-frame-requires c κs = tt

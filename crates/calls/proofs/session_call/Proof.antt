@@ -1,5 +1,4 @@
 use Rattle.items.specs.Bytes.{lentBytes}
-use borrow.Author.Needs.{needs}
 use Rattle.calls.proofs.session_call.Statement.{statement}
 use Rattle.calls.proofs.session_call.Tie as tie
 
@@ -7,7 +6,7 @@ lent-requires : tie.Need-lent-requires
 lent-requires c κs = tt
 
 enum-told : tie.Need-enum-told
-enum-told c = search needs
+enum-told c = c .match .keys1
 
 lent-requires-2 : tie.Need-lent-requires-2
 lent-requires-2 c κs = tt
@@ -19,7 +18,7 @@ start-validation-requires : tie.Need-start-validation-requires
 start-validation-requires c κs = tt
 
 enum-told-2 : tie.Need-enum-told-2
-enum-told-2 c = search needs
+enum-told-2 c = c .match .keys2
 
 lent-requires-4 : tie.Need-lent-requires-4
 lent-requires-4 c κs = tt
@@ -28,19 +27,19 @@ submit-validation-code-requires : tie.Need-submit-validation-code-requires
 submit-validation-code-requires c κs = tt
 
 enum-told-3 : tie.Need-enum-told-3
-enum-told-3 c = search needs
+enum-told-3 c = c .match .keys3
 
 cancel-validation-requires : tie.Need-cancel-validation-requires
 cancel-validation-requires c κs = tt
 
 enum-told-4 : tie.Need-enum-told-4
-enum-told-4 c = search needs
+enum-told-4 c = c .match .keys4
 
 complete-validation-action-at-requires : tie.Need-complete-validation-action-at-requires
 complete-validation-action-at-requires c κs = tt
 
 enum-told-5 : tie.Need-enum-told-5
-enum-told-5 c = search needs
+enum-told-5 c = c .match .keys5
 
 tick-validation-requires : tie.Need-tick-validation-requires
 tick-validation-requires c κs = tt

@@ -5,7 +5,7 @@ use Rattle.turns.proofs.run.Statement.{statement}
 use Rattle.turns.proofs.run.Tie as tie
 
 enum-told : tie.Need-enum-told
-enum-told c = search needs
+enum-told c = c .match .keys1
 
 new-call-requires : tie.Need-new-call-requires
 new-call-requires c κs = tt
@@ -14,7 +14,7 @@ put-outcome-requires : tie.Need-put-outcome-requires
 put-outcome-requires c κs = tt
 
 enum-known-name : tie.Need-enum-known-name
-enum-known-name c = search needs
+enum-known-name c = c .match .keys2
 
 session-call-requires : tie.Need-session-call-requires
 session-call-requires c κs = tt
@@ -23,7 +23,7 @@ put-outcome-requires-2 : tie.Need-put-outcome-requires-2
 put-outcome-requires-2 c κs = tt
 
 enum-known-name-2 : tie.Need-enum-known-name-2
-enum-known-name-2 c = search needs
+enum-known-name-2 c = c .match .keys3
 
 phone-call-requires : tie.Need-phone-call-requires
 phone-call-requires c κs = tt
@@ -32,7 +32,7 @@ put-outcome-requires-3 : tie.Need-put-outcome-requires-3
 put-outcome-requires-3 c κs = tt
 
 enum-known-name-3 : tie.Need-enum-known-name-3
-enum-known-name-3 c = search needs
+enum-known-name-3 c = c .match .keys4
 
 access-call-requires : tie.Need-access-call-requires
 access-call-requires c κs = tt
@@ -41,7 +41,7 @@ put-outcome-requires-4 : tie.Need-put-outcome-requires-4
 put-outcome-requires-4 c κs = tt
 
 enum-known-name-4 : tie.Need-enum-known-name-4
-enum-known-name-4 c = search needs
+enum-known-name-4 c = c .match .keys5
 
 probe-call-requires : tie.Need-probe-call-requires
 probe-call-requires c κs = tt
@@ -50,7 +50,7 @@ put-outcome-requires-5 : tie.Need-put-outcome-requires-5
 put-outcome-requires-5 c κs = tt
 
 enum-known-name-5 : tie.Need-enum-known-name-5
-enum-known-name-5 c = search needs
+enum-known-name-5 c = c .match .keys6
 
 note-call-requires : tie.Need-note-call-requires
 note-call-requires c κs = tt
@@ -59,7 +59,7 @@ put-outcome-requires-6 : tie.Need-put-outcome-requires-6
 put-outcome-requires-6 c κs = tt
 
 enum-known-name-6 : tie.Need-enum-known-name-6
-enum-known-name-6 c = search needs
+enum-known-name-6 c = c .match .keys7
 
 plain-query-requires : tie.Need-plain-query-requires
 plain-query-requires c κs = tt
@@ -71,7 +71,7 @@ put-outcome-requires-7 : tie.Need-put-outcome-requires-7
 put-outcome-requires-7 c κs = tt
 
 enum-known-name-7 : tie.Need-enum-known-name-7
-enum-known-name-7 c = search needs
+enum-known-name-7 c = c .match .keys8
 
 put-long-requires : tie.Need-put-long-requires
 put-long-requires c κs = tt
@@ -80,7 +80,7 @@ put-calm-requires : tie.Need-put-calm-requires
 put-calm-requires c κs = tt
 
 enum-told-2 : tie.Need-enum-told-2
-enum-told-2 c = search needs
+enum-told-2 c = c .match .keys9
 
 set-counters-requires : tie.Need-set-counters-requires
 set-counters-requires c κs = tt
@@ -92,7 +92,7 @@ put-outcome-requires-8 : tie.Need-put-outcome-requires-8
 put-outcome-requires-8 c κs = tt
 
 enum-told-3 : tie.Need-enum-told-3
-enum-told-3 c = search needs
+enum-told-3 c = c .match .keys10
 
 put-gate-requires : tie.Need-put-gate-requires
 put-gate-requires c κs = tt
@@ -101,7 +101,7 @@ not-called-requires : tie.Need-not-called-requires
 not-called-requires c κs = tt
 
 enum-told-4 : tie.Need-enum-told-4
-enum-told-4 c = search needs
+enum-told-4 c = c .match .keys11
 
 not-called-requires-2 : tie.Need-not-called-requires-2
 not-called-requires-2 c κs = tt

@@ -1,57 +1,56 @@
-use borrow.Author.Needs.{needs}
 use Rattle.items.proofs.takes.access_takes.Statement.{statement}
 use Rattle.items.proofs.takes.access_takes.Tie as tie
 
 enum-told : tie.Need-enum-told
-enum-told c = search needs
+enum-told c = c .match .keys1
 
 has-exactly-requires : tie.Need-has-exactly-requires
 has-exactly-requires c κs = tt
 
 enum-told-2 : tie.Need-enum-told-2
-enum-told-2 c = search needs
+enum-told-2 c = c .match .keys2
 
 has-exactly-requires-2 : tie.Need-has-exactly-requires-2
 has-exactly-requires-2 c κs = tt
 
 enum-told-3 : tie.Need-enum-told-3
-enum-told-3 c = search needs
+enum-told-3 c = c .match .keys3
 
 has-exactly-requires-3 : tie.Need-has-exactly-requires-3
 has-exactly-requires-3 c κs = tt
 
 enum-told-4 : tie.Need-enum-told-4
-enum-told-4 c = search needs
+enum-told-4 c = c .match .keys4
 
 has-exactly-requires-4 : tie.Need-has-exactly-requires-4
 has-exactly-requires-4 c κs = tt
 
 enum-told-5 : tie.Need-enum-told-5
-enum-told-5 c = search needs
+enum-told-5 c = c .match .keys5
 
 has-exactly-requires-5 : tie.Need-has-exactly-requires-5
 has-exactly-requires-5 c κs = tt
 
 enum-told-6 : tie.Need-enum-told-6
-enum-told-6 c = search needs
+enum-told-6 c = c .match .keys6
 
 has-exactly-requires-6 : tie.Need-has-exactly-requires-6
 has-exactly-requires-6 c κs = tt
 
 enum-told-7 : tie.Need-enum-told-7
-enum-told-7 c = search needs
+enum-told-7 c = c .match .keys7
 
 has-exactly-requires-7 : tie.Need-has-exactly-requires-7
 has-exactly-requires-7 c κs = tt
 
 enum-told-8 : tie.Need-enum-told-8
-enum-told-8 c = search needs
+enum-told-8 c = c .match .keys8
 
 has-exactly-requires-8 : tie.Need-has-exactly-requires-8
 has-exactly-requires-8 c κs = tt
 
 enum-told-9 : tie.Need-enum-told-9
-enum-told-9 c = search needs
+enum-told-9 c = c .match .keys9
 
 has-exactly-requires-9 : tie.Need-has-exactly-requires-9
 has-exactly-requires-9 c κs = tt

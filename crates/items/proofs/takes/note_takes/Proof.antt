@@ -1,21 +1,20 @@
-use borrow.Author.Needs.{needs}
 use Rattle.items.proofs.takes.note_takes.Statement.{statement}
 use Rattle.items.proofs.takes.note_takes.Tie as tie
 
 enum-told : tie.Need-enum-told
-enum-told c = search needs
+enum-told c = c .match .keys1
 
 has-exactly-requires : tie.Need-has-exactly-requires
 has-exactly-requires c κs = tt
 
 enum-told-2 : tie.Need-enum-told-2
-enum-told-2 c = search needs
+enum-told-2 c = c .match .keys2
 
 has-exactly-requires-2 : tie.Need-has-exactly-requires-2
 has-exactly-requires-2 c κs = tt
 
 enum-told-3 : tie.Need-enum-told-3
-enum-told-3 c = search needs
+enum-told-3 c = c .match .keys3
 
 both-requires : tie.Need-both-requires
 both-requires c κs = tt
@@ -24,7 +23,7 @@ has-exactly-requires-3 : tie.Need-has-exactly-requires-3
 has-exactly-requires-3 c κs = tt
 
 enum-told-4 : tie.Need-enum-told-4
-enum-told-4 c = search needs
+enum-told-4 c = c .match .keys4
 
 both-requires-2 : tie.Need-both-requires-2
 both-requires-2 c κs = tt
@@ -33,7 +32,7 @@ has-exactly-requires-4 : tie.Need-has-exactly-requires-4
 has-exactly-requires-4 c κs = tt
 
 enum-told-5 : tie.Need-enum-told-5
-enum-told-5 c = search needs
+enum-told-5 c = c .match .keys5
 
 both-requires-3 : tie.Need-both-requires-3
 both-requires-3 c κs = tt

@@ -1,69 +1,68 @@
-use borrow.Author.Needs.{needs}
 use Rattle.items.proofs.takes.plain_takes.Statement.{statement}
 use Rattle.items.proofs.takes.plain_takes.Tie as tie
 
 enum-told : tie.Need-enum-told
-enum-told c = search needs
+enum-told c = c .match .keys1
 
 has-exactly-requires : tie.Need-has-exactly-requires
 has-exactly-requires c κs = tt
 
 enum-told-2 : tie.Need-enum-told-2
-enum-told-2 c = search needs
+enum-told-2 c = c .match .keys2
 
 has-exactly-requires-2 : tie.Need-has-exactly-requires-2
 has-exactly-requires-2 c κs = tt
 
 enum-told-3 : tie.Need-enum-told-3
-enum-told-3 c = search needs
+enum-told-3 c = c .match .keys3
 
 has-exactly-requires-3 : tie.Need-has-exactly-requires-3
 has-exactly-requires-3 c κs = tt
 
 enum-told-4 : tie.Need-enum-told-4
-enum-told-4 c = search needs
+enum-told-4 c = c .match .keys4
 
 has-exactly-requires-4 : tie.Need-has-exactly-requires-4
 has-exactly-requires-4 c κs = tt
 
 enum-told-5 : tie.Need-enum-told-5
-enum-told-5 c = search needs
+enum-told-5 c = c .match .keys5
 
 has-exactly-requires-5 : tie.Need-has-exactly-requires-5
 has-exactly-requires-5 c κs = tt
 
 enum-told-6 : tie.Need-enum-told-6
-enum-told-6 c = search needs
+enum-told-6 c = c .match .keys6
 
 has-exactly-requires-6 : tie.Need-has-exactly-requires-6
 has-exactly-requires-6 c κs = tt
 
 enum-told-7 : tie.Need-enum-told-7
-enum-told-7 c = search needs
+enum-told-7 c = c .match .keys7
 
 has-exactly-requires-7 : tie.Need-has-exactly-requires-7
 has-exactly-requires-7 c κs = tt
 
 enum-told-8 : tie.Need-enum-told-8
-enum-told-8 c = search needs
+enum-told-8 c = c .match .keys8
 
 has-exactly-requires-8 : tie.Need-has-exactly-requires-8
 has-exactly-requires-8 c κs = tt
 
 enum-told-9 : tie.Need-enum-told-9
-enum-told-9 c = search needs
+enum-told-9 c = c .match .keys9
 
 has-exactly-requires-9 : tie.Need-has-exactly-requires-9
 has-exactly-requires-9 c κs = tt
 
 enum-told-10 : tie.Need-enum-told-10
-enum-told-10 c = search needs
+enum-told-10 c = c .match .keys10
 
 has-exactly-requires-10 : tie.Need-has-exactly-requires-10
 has-exactly-requires-10 c κs = tt
 
 enum-told-11 : tie.Need-enum-told-11
-enum-told-11 c = search needs
+enum-told-11 c = c .match .keys11
 
 both-requires : tie.Need-both-requires
 both-requires c κs = tt
@@ -72,37 +71,37 @@ has-exactly-requires-11 : tie.Need-has-exactly-requires-11
 has-exactly-requires-11 c κs = tt
 
 enum-told-12 : tie.Need-enum-told-12
-enum-told-12 c = search needs
+enum-told-12 c = c .match .keys12
 
 has-exactly-requires-12 : tie.Need-has-exactly-requires-12
 has-exactly-requires-12 c κs = tt
 
 enum-told-13 : tie.Need-enum-told-13
-enum-told-13 c = search needs
+enum-told-13 c = c .match .keys13
 
 has-exactly-requires-13 : tie.Need-has-exactly-requires-13
 has-exactly-requires-13 c κs = tt
 
 enum-told-14 : tie.Need-enum-told-14
-enum-told-14 c = search needs
+enum-told-14 c = c .match .keys14
 
 has-exactly-requires-14 : tie.Need-has-exactly-requires-14
 has-exactly-requires-14 c κs = tt
 
 enum-told-15 : tie.Need-enum-told-15
-enum-told-15 c = search needs
+enum-told-15 c = c .match .keys15
 
 has-exactly-requires-15 : tie.Need-has-exactly-requires-15
 has-exactly-requires-15 c κs = tt
 
 enum-told-16 : tie.Need-enum-told-16
-enum-told-16 c = search needs
+enum-told-16 c = c .match .keys16
 
 has-exactly-requires-16 : tie.Need-has-exactly-requires-16
 has-exactly-requires-16 c κs = tt
 
 enum-told-17 : tie.Need-enum-told-17
-enum-told-17 c = search needs
+enum-told-17 c = c .match .keys17
 
 both-requires-2 : tie.Need-both-requires-2
 both-requires-2 c κs = tt

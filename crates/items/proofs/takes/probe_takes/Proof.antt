@@ -1,9 +1,8 @@
-use borrow.Author.Needs.{needs}
 use Rattle.items.proofs.takes.probe_takes.Statement.{statement}
 use Rattle.items.proofs.takes.probe_takes.Tie as tie
 
 enum-told : tie.Need-enum-told
-enum-told c = search needs
+enum-told c = c .match .keys1
 
 all-three-requires : tie.Need-all-three-requires
 all-three-requires c κs = tt
@@ -12,19 +11,19 @@ has-beside-requires : tie.Need-has-beside-requires
 has-beside-requires c κs = tt
 
 enum-told-2 : tie.Need-enum-told-2
-enum-told-2 c = search needs
+enum-told-2 c = c .match .keys2
 
 has-exactly-requires : tie.Need-has-exactly-requires
 has-exactly-requires c κs = tt
 
 enum-told-3 : tie.Need-enum-told-3
-enum-told-3 c = search needs
+enum-told-3 c = c .match .keys3
 
 allow-takes-requires : tie.Need-allow-takes-requires
 allow-takes-requires c κs = tt
 
 enum-told-4 : tie.Need-enum-told-4
-enum-told-4 c = search needs
+enum-told-4 c = c .match .keys4
 
 both-requires : tie.Need-both-requires
 both-requires c κs = tt

@@ -1,57 +1,56 @@
-use borrow.Author.Needs.{needs}
 use Rattle.items.proofs.takes.takes.Statement.{statement}
 use Rattle.items.proofs.takes.takes.Tie as tie
 
 enum-told : tie.Need-enum-told
-enum-told c = search needs
+enum-told c = c .match .keys1
 
 new-takes-requires : tie.Need-new-takes-requires
 new-takes-requires c κs = tt
 
 enum-known-name : tie.Need-enum-known-name
-enum-known-name c = search needs
+enum-known-name c = c .match .keys2
 
 session-takes-requires : tie.Need-session-takes-requires
 session-takes-requires c κs = tt
 
 enum-known-name-2 : tie.Need-enum-known-name-2
-enum-known-name-2 c = search needs
+enum-known-name-2 c = c .match .keys3
 
 phone-takes-requires : tie.Need-phone-takes-requires
 phone-takes-requires c κs = tt
 
 enum-known-name-3 : tie.Need-enum-known-name-3
-enum-known-name-3 c = search needs
+enum-known-name-3 c = c .match .keys4
 
 access-takes-requires : tie.Need-access-takes-requires
 access-takes-requires c κs = tt
 
 enum-known-name-4 : tie.Need-enum-known-name-4
-enum-known-name-4 c = search needs
+enum-known-name-4 c = c .match .keys5
 
 probe-takes-requires : tie.Need-probe-takes-requires
 probe-takes-requires c κs = tt
 
 enum-known-name-5 : tie.Need-enum-known-name-5
-enum-known-name-5 c = search needs
+enum-known-name-5 c = c .match .keys6
 
 note-takes-requires : tie.Need-note-takes-requires
 note-takes-requires c κs = tt
 
 enum-known-name-6 : tie.Need-enum-known-name-6
-enum-known-name-6 c = search needs
+enum-known-name-6 c = c .match .keys7
 
 plain-takes-requires : tie.Need-plain-takes-requires
 plain-takes-requires c κs = tt
 
 enum-known-name-7 : tie.Need-enum-known-name-7
-enum-known-name-7 c = search needs
+enum-known-name-7 c = c .match .keys8
 
 long-takes-requires : tie.Need-long-takes-requires
 long-takes-requires c κs = tt
 
 enum-told-2 : tie.Need-enum-told-2
-enum-told-2 c = search needs
+enum-told-2 c = c .match .keys9
 
 both-requires : tie.Need-both-requires
 both-requires c κs = tt
@@ -60,13 +59,13 @@ has-exactly-requires : tie.Need-has-exactly-requires
 has-exactly-requires c κs = tt
 
 enum-told-3 : tie.Need-enum-told-3
-enum-told-3 c = search needs
+enum-told-3 c = c .match .keys10
 
 has-exactly-requires-2 : tie.Need-has-exactly-requires-2
 has-exactly-requires-2 c κs = tt
 
 enum-told-4 : tie.Need-enum-told-4
-enum-told-4 c = search needs
+enum-told-4 c = c .match .keys11
 
 returns : tie.Need-returns
 returns c = rw (c .before .enum-told .given .1, ← c .new-takes .ensures)

@@ -1,15 +1,14 @@
 -- The letters that each arm names are those of the definition, by computing.
 use Rattle.lines.specs.Answer.{letters, words}
 use lib.Dec.{lit≤}
-use borrow.Author.Needs.{needs}
 use Rattle.lines.proofs.answer.kind_word.Statement.{statement}
 use Rattle.lines.proofs.answer.kind_word.Tie as tie
 
 enum-told : tie.Need-enum-told
-enum-told c = search needs
+enum-told c = c .match .keys1
 
 enum-told-2 : tie.Need-enum-told-2
-enum-told-2 c = search needs
+enum-told-2 c = c .match .keys2
 
 returns : tie.Need-returns
 unfolding letters words

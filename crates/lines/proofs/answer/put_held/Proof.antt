@@ -4,13 +4,13 @@ use Rattle.lines.proofs.answer.put_held.Statement.{statement}
 use Rattle.lines.proofs.answer.put_held.Tie as tie
 
 enum-told : tie.Need-enum-told
-enum-told c = search needs
+enum-told c = c .match .keys1
 
 enum-told-2 : tie.Need-enum-told-2
-enum-told-2 c = search needs
+enum-told-2 c = c .match .keys2
 
 enum-known-h : tie.Need-enum-known-h
-enum-known-h c = search needs
+enum-known-h c = c .match .keys3
 
 key-word-requires : tie.Need-key-word-requires
 key-word-requires c κs = tt
@@ -22,13 +22,13 @@ put-number-requires : tie.Need-put-number-requires
 put-number-requires c κs = tt
 
 enum-known-h-2 : tie.Need-enum-known-h-2
-enum-known-h-2 c = search needs
+enum-known-h-2 c = c .match .keys4
 
 put-reply-requires : tie.Need-put-reply-requires
 put-reply-requires c κs = tt
 
 enum-known-h-3 : tie.Need-enum-known-h-3
-enum-known-h-3 c = search needs
+enum-known-h-3 c = c .match .keys5
 
 put-reply-requires-2 : tie.Need-put-reply-requires-2
 put-reply-requires-2 c κs = tt
