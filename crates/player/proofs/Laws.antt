@@ -15,7 +15,7 @@ use Rattle.items.specs.Bytes.{Bytes, bytesOf}
 use Rattle.items.specs.Items.{readOf}
 use Rattle.items.specs.Takes.{takes}
 use Rattle.items.specs.declared.Items.{Items}
-use Rattle.lines.specs.Page.{Page}
+use Rattle.lines.specs.Page.{Page, text}
 use Rattle.script.specs.Words.{before}
 use Rattle.script.proofs.Laws.{before-le}
 use Rattle.state.specs.declared.Gate.{Gate}
@@ -39,9 +39,9 @@ module _ (g : Gate) (n : ℕ) (line : List ℕ) (p : Page) (name : Name) (i : It
   played-wrong wrong = rw (← word, ← called, ← read, wrong)
 
 module _ (n : ℕ) (g : Gate) (p : Page) where
-  pub with-state : (c : Bool) (from end : Page) → c ≡ true → from ≡ begun n (ascii "state") p → end ≡ Whole.gate g from → ended (record { gate = g; page = end; called = true }) ≡ withState true n (record { gate = g; page = p; called = c })
-  unfolding withState stated
-  with-state c from end h f r = rw (h, ← f, ← r)
+  pub with-state : (c : Bool) (from end last : Page) → c ≡ true → from ≡ begun n (ascii "state") p → end ≡ Whole.gate g from → last ≡ text (10 ∷ []) end → _≡_ {A = Turn} (record { gate = g; page = last; called = c }) (withState true n (record { gate = g; page = p; called = c }))
+  unfolding withState stated ended
+  with-state c from end last h f r l = rw (h, ← f, ← r, ← l)
 
   pub no-state : (c : Bool) → c ≡ false → _≡_ {A = Turn} (record { gate = g; page = p; called = c }) (withState true n (record { gate = g; page = p; called = c }))
   unfolding withState

@@ -53,19 +53,6 @@ fn put_error(out: &mut [u8], at: usize, name: Name) -> usize
     lines::put_text(out, at, b" error=unknown_call")
 }
 
-// The end of a line.
-fn put_end(r: Played, out: &mut [u8]) -> Played
-    ensures { λ s. ⌜ turnOf s (now (out .exit)) ≡ ended (turnOf r (now (out .entry))) ⌝ }
-{
-    let k = lines::put_text(out, r.at, b"\n");
-    let g = r.gate;
-    Played {
-        gate: g,
-        at: k,
-        called: r.called,
-    }
-}
-
 // A line whose items are right.
 fn play_call(
     g: Gate,
@@ -80,8 +67,9 @@ fn play_call(
     ensures { λ r. ⌜ turnOf r (now (out .exit)) ≡ ended (ran (lineOf name i (lentBytes p (now (room .entry)))) g (begun number (now (word .entry)) (page (now (out .entry)) 0))) ⌝ }
 {
     let k = put_begin(out, 0, number, word);
-    let r = turns::run(g, name, i, p, room, out, k);
-    put_end(r, out)
+    let mut r = turns::run(g, name, i, p, room, out, k);
+    r.at = lines::put_text(out, r.at, b"\n");
+    r
 }
 
 // A line that is no call.
@@ -90,8 +78,8 @@ fn play_error(g: Gate, number: u64, name: Name, out: &mut [u8]) -> Played
 {
     let k = lines::put_item(out, 0, b"line=", number);
     let k = put_error(out, k, name);
-    let r = turns::not_called(g, k);
-    put_end(r, out)
+    let k = lines::put_text(out, k, b"\n");
+    turns::not_called(g, k)
 }
 
 fn play_line(g: Gate, number: u64, line: &[u8], room: &mut [u8], out: &mut [u8]) -> Played
@@ -121,18 +109,12 @@ pub fn play(
     requires { ⌜ 7 * length (now line) ≤ 2 * length (now room) ⌝ }
     ensures { λ r. ⌜ (turnOf r (now (out .exit)) ≡ withState states number (played g number (now (line .entry)) (page (now (out .entry)) 0))) × (now (room .exit) ≡ put (now (room .entry)) 0 (joined (bytesOf (now (line .entry))))) ⌝ }
 {
-    let r = play_line(g, number, line, room, out);
+    let mut r = play_line(g, number, line, room, out);
     if states {
         if r.called {
-            let h = r.gate;
             let k = put_begin(out, r.at, number, b"state");
-            let k = state_lines::put_gate(out, k, h);
-            let s = Played {
-                gate: h,
-                at: k,
-                called: true,
-            };
-            return put_end(s, out);
+            let k = state_lines::put_gate(out, k, r.gate);
+            r.at = lines::put_text(out, k, b"\n");
         }
     }
     r

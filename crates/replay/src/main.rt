@@ -42,18 +42,6 @@ fn keep(line: &mut [u8], len: usize, more: &[u8]) -> usize
     len + more.len()
 }
 
-// The next line, on this gate.
-fn next_line(p: Replay, gate: Gate, going: bool) -> Replay
-    ensures { λ r. ⌜ r ≡ nextLine (p .number) gate going ⌝ }
-{
-    Replay {
-        gate,
-        number: std::num::wrapping_add_u64(p.number, 1),
-        len: 0,
-        going,
-    }
-}
-
 // Prints the first `at` bytes that were laid down.
 fn print(out: &[u8], at: usize) -> bool {
     if at <= out.len() {
@@ -83,14 +71,20 @@ fn give_line(p: Replay, line: &[u8], states: bool, room: &mut [u8], out: &mut [u
     player::play(g, p.number, &line[..n], states, room, out)
 }
 
+// Plays the line that has ended; the next one has no byte yet.
 fn finish_line(p: Replay, line: &[u8], states: bool, room: &mut [u8], out: &mut [u8]) -> Replay
     requires { ⌜ 7 * length (now line) ≤ 2 * length (now room) ⌝ }
     ensures { λ r. ⌜ r ≡ nextLine (p .number) (gateAfter (p .gate) (p .number) (lineIn (now (line .entry)) (p .len))) (r .going) ⌝ }
 {
     let r = give_line(p, line, states, room, out);
-    let g = r.gate;
+    let gate = r.gate;
     let going = print(out, r.at);
-    next_line(p, g, going)
+    Replay {
+        gate,
+        number: std::num::wrapping_add_u64(p.number, 1),
+        len: 0,
+        going,
+    }
 }
 
 // Plays the lines that end in this piece of the script.
@@ -133,17 +127,14 @@ fn turn(p: Replay, line: &mut [u8], states: bool, room: &mut [u8], out: &mut [u8
     if 0 < n {
         return read_piece(p, &piece[..n], line, states, room, out);
     }
-    let g = p.gate;
+    let mut q = p;
     if got < 0 {
         os::fail(b"replay: standard input");
-        return next_line(p, g, false);
+    } else if 0 < q.len {
+        q = finish_line(q, line, states, room, out);
     }
-    if 0 < p.len {
-        let q = finish_line(p, line, states, room, out);
-        let h = q.gate;
-        return next_line(q, h, false);
-    }
-    next_line(p, g, false)
+    q.going = false;
+    q
 }
 
 fn run(line: &mut [u8], room: &mut [u8], out: &mut [u8])

@@ -90,29 +90,27 @@ pub fn not_called(g: Gate, at: usize) -> Played
 pub fn run(g: Gate, name: Name, i: Items, p: Ends, room: &[u8], out: &mut [u8], at: usize) -> Played
     ensures { λ r. ⌜ turnOf r (now (out .exit)) ≡ ran (lineOf name i (lentBytes p (now (room .entry)))) g (page (now (out .entry)) at) ⌝ }
 {
-    match name {
-        Name::New => put_outcome(calls::new_call(g, i), out, at),
-        Name::Session(c) => put_outcome(calls::session_call(g, c, i, p, room), out, at),
-        Name::Phone(c) => put_outcome(calls::phone_call(g, c, p, room), out, at),
-        Name::Access(c) => put_outcome(calls::access_call(g, c, i, p, room), out, at),
-        Name::Probe(c) => put_outcome(calls::probe_call(g, c, i, p, room), out, at),
-        Name::Note(c) => put_outcome(calls::note_call(g, c, i), out, at),
-        Name::Plain(q) => {
-            let a = asks::plain_query(g, q, i, p, room);
-            put_outcome(no_signals(g, a), out, at)
-        }
+    let o = match name {
+        Name::New => calls::new_call(g, i),
+        Name::Session(c) => calls::session_call(g, c, i, p, room),
+        Name::Phone(c) => calls::phone_call(g, c, p, room),
+        Name::Access(c) => calls::access_call(g, c, i, p, room),
+        Name::Probe(c) => calls::probe_call(g, c, i, p, room),
+        Name::Note(c) => calls::note_call(g, c, i),
+        Name::Plain(q) => no_signals(g, asks::plain_query(g, q, i, p, room)),
+        Name::SetCounters => no_signals(
+            set_counters(g, i.numbers.next.value, i.numbers.relocks.value),
+            Answer::Done,
+        ),
         Name::Long(q) => {
             let k = asks::put_long(g, q, i, p, room, out, at);
-            put_calm(g, out, k)
-        }
-        Name::SetCounters => {
-            let h = set_counters(g, i.numbers.next.value, i.numbers.relocks.value);
-            put_outcome(no_signals(h, Answer::Done), out, at)
+            return put_calm(g, out, k);
         }
         Name::State => {
             let k = state_lines::put_gate(out, at, g);
-            not_called(g, k)
+            return not_called(g, k);
         }
-        Name::Unknown => not_called(g, at),
-    }
+        Name::Unknown => return not_called(g, at),
+    };
+    put_outcome(o, out, at)
 }

@@ -1,7 +1,7 @@
-use borrow.Author.Needs.{needs}
 use mathlib.Core.Path.{_∙_}
 use Rattle.player.specs.Played.{withState}
 use Rattle.player.proofs.Laws.{with-state, no-state}
+use borrow.Author.Needs.{needs}
 use Rattle.player.proofs.play.Statement.{statement}
 use Rattle.player.proofs.play.Tie as tie
 
@@ -17,20 +17,23 @@ put-begin-requires c κs = tt
 put-gate-requires : tie.Need-put-gate-requires
 put-gate-requires c κs = tt
 
-put-end-requires : tie.Need-put-end-requires
-put-end-requires c κs = search needs
+slice-aggregate-put-text : tie.Need-slice-aggregate-put-text
+slice-aggregate-put-text c = search needs
+
+put-text-requires : tie.Need-put-text-requires
+put-text-requires c κs = search needs
 
 same-length : tie.Need-same-length
 same-length c = c .before .before .before .before .before .before .before .before .before .before .before .before .before .before .before .before .before .before .before .before .play-line .kept .1 .1 .1 .0
 
 same-length-2 : tie.Need-same-length-2
-same-length-2 c = c .before .before .put-end .kept .1 .0 ∙ c .before .before .before .before .before .before .put-gate .kept .0 ∙ c .before .before .before .before .before .before .before .before .before .before .put-begin .kept .0 ∙ c .before .before .before .before .before .before .before .before .before .before .before .before .before .before .before .before .before .before .before .before .play-line .kept .1 .1 .1 .1 .0
+same-length-2 c = c .before .before .put-text .kept .0 ∙ c .before .before .before .before .before .before .before .put-gate .kept .0 ∙ c .before .before .before .before .before .before .before .before .before .before .before .put-begin .kept .0 ∙ c .before .before .before .before .before .before .before .before .before .before .before .before .before .before .before .before .before .before .before .before .play-line .kept .1 .1 .1 .1 .0
 
 returns : tie.Need-returns
 returns c =
     let l = c .before .before .before .before .before .before .before .before .before .before .before .before .before .before .before .before .before .before .before .before .play-line .ensures in
-    let t = with-state _ _ _ _ _ _ (c .before .before .before .before .before .before .before .before .before .before .before .before .before .before .if2 .taken) (c .before .before .before .before .before .before .before .before .before .before .put-begin .ensures) (c .before .before .before .before .before .before .put-gate .ensures) in
-    (rw (← l .0, c .before .before .before .before .before .before .before .before .before .before .before .before .before .before .before .if1 .taken) (c .before .before .put-end .ensures ∙ t), l .1)
+    let t = with-state _ _ _ _ _ _ _ (c .before .before .before .before .before .before .before .before .before .before .before .before .before .before .if2 .taken) (c .before .before .before .before .before .before .before .before .before .before .before .put-begin .ensures) (c .before .before .before .before .before .before .before .put-gate .ensures) (c .before .before .put-text .ensures) in
+    (rw (← l .0, c .before .before .before .before .before .before .before .before .before .before .before .before .before .before .before .if1 .taken) t, l .1)
 
 same-length-3 : tie.Need-same-length-3
 same-length-3 c = search needs
@@ -63,7 +66,8 @@ play-spec =
     slice-aggregate-put-begin
     put-begin-requires
     put-gate-requires
-    put-end-requires
+    slice-aggregate-put-text
+    put-text-requires
     same-length
     same-length-2
     returns

@@ -1,5 +1,4 @@
-use mathlib.Core.Path.{_∙_}
-use Rattle.player.specs.Played.{failed}
+use Rattle.player.specs.Played.{failed, ended}
 use borrow.Author.Needs.{needs}
 use Rattle.player.proofs.play_error.Statement.{statement}
 use Rattle.player.proofs.play_error.Tie as tie
@@ -13,18 +12,21 @@ put-item-requires c κs = tt
 put-error-requires : tie.Need-put-error-requires
 put-error-requires c κs = tt
 
+slice-aggregate-put-text : tie.Need-slice-aggregate-put-text
+slice-aggregate-put-text c = search needs
+
+put-text-requires : tie.Need-put-text-requires
+put-text-requires c κs = search needs
+
 not-called-requires : tie.Need-not-called-requires
 not-called-requires c κs = tt
-
-put-end-requires : tie.Need-put-end-requires
-put-end-requires c κs = search needs
 
 same-length : tie.Need-same-length
 same-length c = search needs
 
 returns : tie.Need-returns
-unfolding failed
-returns c = rw (c .before .before .before .before .not-called .ensures) at (c .before .before .put-end .ensures) ∙ rw (c .before .before .before .before .before .before .before .put-error .ensures, c .before .before .before .before .before .before .before .before .before .before .before .put-item .ensures)
+unfolding failed ended
+returns c = rw (c .not-called .ensures, ← c .before .before .before .before .before .before .before .before .before .before .before .before .put-item .ensures, ← c .before .before .before .before .before .before .before .before .put-error .ensures, ← c .before .before .before .put-text .ensures)
 
 pub play-error-spec : {M : Type 1} → statement M
 play-error-spec =
@@ -33,7 +35,8 @@ play-error-spec =
     slice-aggregate-put-item
     put-item-requires
     put-error-requires
+    slice-aggregate-put-text
+    put-text-requires
     not-called-requires
-    put-end-requires
     same-length
     returns)

@@ -1,4 +1,4 @@
--- The gate is the same whatever was laid down. Assumes nothing.
+-- The gate is the same whatever was laid down; the next number wraps. Assumes nothing.
 use denote.Ref.{now}
 use Rattle.lines.specs.Page.{page}
 use Rattle.replay.specs.Script.{lineIn}
@@ -15,8 +15,8 @@ give-line-requires c κs = search needs
 print-requires : tie.Need-print-requires
 print-requires c κs = tt
 
-next-line-requires : tie.Need-next-line-requires
-next-line-requires c κs = tt
+wrapping-add-u64-requires : tie.Need-wrapping-add-u64-requires
+wrapping-add-u64-requires c κs = search needs
 
 same-length : tie.Need-same-length
 same-length c = search needs
@@ -28,7 +28,7 @@ returns : tie.Need-returns
 returns c =
     let a = c .before .before .before .before .before .before .before .before .before .before .before .before .before .before .args in
     let g = ap (λ (t : Turn). t .gate) (c .before .before .before .before .before .before .before .before .give-line .ensures) ∙ gives-gate (a .states) (a .p .gate) (a .p .number) (lineIn (now (a .line)) (a .p .len)) (page (now (a .out)) 0) in
-    rw (c .next-line .ensures, ← g)
+    rw (c .wrapping-add-u64 .ensures, ← g)
 
 pub finish-line-spec : {M : Type 1} → statement M
 finish-line-spec =
@@ -36,7 +36,7 @@ finish-line-spec =
     (tie.spec
     give-line-requires
     print-requires
-    next-line-requires
+    wrapping-add-u64-requires
     same-length
     same-length-2
     returns)
