@@ -1,11 +1,12 @@
--- What each query answers. 25 comes first: then the rest of the answer is zeros, no and none.
+-- What each query answers. 25 comes first: then the rest of the answer is zeros, no and none, but for read-only, which is yes:
+-- an unmet condition always reads as read-only (can_access.rs).
 use mathlib.Core.Bool.{Bool, true, false, cond, not, _&&_, _||_}
-use mathlib.Core.List.{List, [], _∷_}
+use mathlib.Core.List.{List, [], _∷_, map}
 use Prim.Native.Nat.{ℕ, zero, suc, _-_}
 use lib.Dec.{eqb, ltb}
 use lib.ListN.{length, take, replicate}
 use Rattle.arrays.specs.Arrays.{padded}
-use Rattle.phones.specs.declared.PhoneId.{PhoneId}
+use Rattle.phones.specs.declared.ShortId.{ShortId}
 use Rattle.phones.specs.declared.PhoneList.{PhoneList}
 use Rattle.phones.specs.Phones.{idBytes, idOf, phonesOf, listOf}
 use Rattle.saved_record.specs.declared.SavedRecord.{SavedRecord}
@@ -18,7 +19,7 @@ use Rattle.state.specs.declared.Core.{Core}
 use Rattle.state.specs.declared.Answer.{Answer}
 use Rattle.state.specs.declared.Answer.the-variants as Answer
 use Rattle.state.specs.declared.Answer.the-variants.{Done, Nothing, BadSettings}
-use Rattle.state.specs.Running.{isRunning, inProgress, codeInProgress, noMethod}
+use Rattle.state.specs.Running.{isRunning, inProgress, codeInProgress, noMethod, cleanMethod}
 use Rattle.range.specs.Range.{inRange}
 use Rattle.state.specs.Replies.{noRecord, noChallenge}
 use Rattle.policy.specs.declared.Approval.{Approval}
@@ -42,8 +43,8 @@ use Rattle.answers.specs.declared.RecordAnswer.{RecordAnswer}
 
 -- ---- yes or no, a number
 
-unfoldable pub told : Core → Answer → Answer
-told c a = cond (inRange c) a BadSettings
+unfoldable pub ifInRange : Core → Answer → Answer
+ifInRange c a = cond (inRange c) a BadSettings
 
 -- ---- the policy
 
@@ -54,8 +55,8 @@ approvalAnswer c =
     (record { answer = BadSettings; approval = NotApproved })
 
 -- can_access_state
-abbrev pub accessOf : Policy → AccessAnswer
-accessOf p = record {
+abbrev pub accessStateOf : Policy → AccessAnswer
+accessStateOf p = record {
   answer = Done;
   platform = p .identity .confirmed;
   car = fingerprintConfirmed (p .identity);
@@ -67,10 +68,10 @@ accessOf p = record {
 }
 
 abbrev pub noAccessState : AccessAnswer
-noAccessState = record { answer = BadSettings; platform = false; car = false; approval = NotApproved; devlock = false; unlocked = false; logging = false; readonly = false }
+noAccessState = record { answer = BadSettings; platform = false; car = false; approval = NotApproved; devlock = false; unlocked = false; logging = false; readonly = true }
 
 unfoldable pub accessAnswer : Core → AccessAnswer
-accessAnswer c = cond (inRange c) (accessOf (c .policy)) noAccessState
+accessAnswer c = cond (inRange c) (accessStateOf (c .policy)) noAccessState
 
 -- ---- phones
 
@@ -118,7 +119,7 @@ sessionShown c phone clock =
 
 -- phone_access_state
 abbrev pub noAccess : Answer → PhoneAccessAnswer
-noAccess a = record { answer = a; trust = NotBonded; validated = false; session = Nothing }
+noAccess a = record { answer = a; trust = NotBonded; «car_has_validated» = false; session = Nothing }
 
 abbrev pub phoneAccessOf : Core → ℕ → PhoneAccessAnswer
 phoneAccessOf c clock =
@@ -126,7 +127,7 @@ phoneAccessOf c clock =
     (record {
       answer = Done;
       trust = trustOf c (idBytes (c .peer));
-      validated = carHasValidated c;
+      «car_has_validated» = carHasValidated c;
       session = sessionShown c (idBytes (c .peer)) clock;
     })
 
@@ -150,8 +151,8 @@ methodsOf a ms bs = record { answer = a; list = padded 8 noMethod ms; available 
 -- validation_methods
 abbrev pub methodsNow : Core → MethodsAnswer
 methodsNow c =
-    let used = take (c .methods .count) (c .methods .list) in
-    methodsOf Done used (canStartFrom c 0 used)
+    let n = c .methods .count in
+    methodsOf Done (take n (map cleanMethod (c .methods .list))) (canStartFrom c 0 (take n (c .methods .list)))
 
 unfoldable pub methodsAnswer : Core → MethodsAnswer
 methodsAnswer c = cond (inRange c) (methodsNow c) (methodsOf BadSettings [] [])

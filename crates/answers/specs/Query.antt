@@ -21,7 +21,7 @@ use Rattle.answers.specs.declared.PhoneAccessAnswer.{PhoneAccessAnswer}
 use Rattle.answers.specs.declared.MethodsAnswer.{MethodsAnswer}
 use Rattle.answers.specs.declared.ChallengeAnswer.{ChallengeAnswer}
 use Rattle.answers.specs.declared.RecordAnswer.{RecordAnswer}
-use Rattle.answers.specs.Answers.{told, approvalAnswer, accessAnswer, phonesAnswer, trustAnswer, recordAnswer, peerAnswer, sessionShown, phoneAccessAnswer, methodsAnswer, challengeAnswer}
+use Rattle.answers.specs.Answers.{ifInRange, approvalAnswer, accessAnswer, phonesAnswer, trustAnswer, recordAnswer, peerAnswer, sessionShown, phoneAccessAnswer, methodsAnswer, challengeAnswer}
 
 pub data Query : Type 0 where
   isCanReadOnly canReadOnlyReason isCarIdentityConfirmed isCarFingerprintConfirmed canReadWriteApproval : Query
@@ -62,29 +62,29 @@ numberedReply (challenge a) = numbered (a .answer)
 numberedReply (saved a) = numbered (a .answer)
 
 unfoldable pub answerTo : Core → List ℕ → Query → Reply
-answerTo c held isCanReadOnly = plain (told c (yesNo (isReadOnly (c .policy))))
-answerTo c held canReadOnlyReason = plain (told c (Reason (reason (c .policy))))
-answerTo c held isCarIdentityConfirmed = plain (told c (yesNo (c .policy .identity .confirmed)))
-answerTo c held isCarFingerprintConfirmed = plain (told c (yesNo (fingerprintConfirmed (c .policy .identity))))
+answerTo c held isCanReadOnly = plain (ifInRange c (yesNo (isReadOnly (c .policy))))
+answerTo c held canReadOnlyReason = plain (ifInRange c (Reason (reason (c .policy))))
+answerTo c held isCarIdentityConfirmed = plain (ifInRange c (yesNo (c .policy .identity .confirmed)))
+answerTo c held isCarFingerprintConfirmed = plain (ifInRange c (yesNo (fingerprintConfirmed (c .policy .identity))))
 answerTo c held canReadWriteApproval = approval (approvalAnswer c)
-answerTo c held hasCanDevWriteLock = plain (told c (yesNo (devLock (c .policy .access))))
-answerTo c held isCanDevWriteUnlocked = plain (told c (yesNo (devUnlocked (c .policy .access))))
+answerTo c held hasCanDevWriteLock = plain (ifInRange c (yesNo (devLock (c .policy .access))))
+answerTo c held isCanDevWriteUnlocked = plain (ifInRange c (yesNo (devUnlocked (c .policy .access))))
 answerTo c held canAccessState = access (accessAnswer c)
-answerTo c held platformId = plain (told c (Number (c .policy .identity .platform)))
-answerTo c held isCanLogging = plain (told c (yesNo (c .policy .buses .logging)))
-answerTo c held (isCanFdBus bus) = plain (told c (yesNo (isFdBus (c .policy .buses) bus)))
-answerTo c held (isCanBusReadOnly bus) = plain (told c (yesNo (isBusReadOnly (c .policy) bus)))
-answerTo c held (isCanBusListenOnly bus clock) = plain (told c (yesNo (isListenOnly (c .policy) (c .probe) bus clock)))
-answerTo c held (isPhonePaired id) = plain (told c (yesNo (isPaired c id)))
-answerTo c held (isPhoneValidated id) = plain (told c (yesNo (isValidated c id)))
+answerTo c held platformId = plain (ifInRange c (Number (c .policy .identity .platform)))
+answerTo c held isCanLogging = plain (ifInRange c (yesNo (c .policy .buses .logging)))
+answerTo c held (isCanFdBus bus) = plain (ifInRange c (yesNo (isFdBus (c .policy .buses) bus)))
+answerTo c held (isCanBusReadOnly bus) = plain (ifInRange c (yesNo (isBusReadOnly (c .policy) bus)))
+answerTo c held (isCanBusListenOnly bus clock) = plain (ifInRange c (yesNo (isListenOnly (c .policy) (c .probe) bus clock)))
+answerTo c held (isPhonePaired id) = plain (ifInRange c (yesNo (isPaired c id)))
+answerTo c held (isPhoneValidated id) = plain (ifInRange c (yesNo (isValidated c id)))
 answerTo c held (phoneTrustLevel id) = trust (trustAnswer c id)
-answerTo c held pairedPhoneCount = plain (told c (Count (length (phonesOf (c .paired)))))
+answerTo c held pairedPhoneCount = plain (ifInRange c (Count (length (phonesOf (c .paired)))))
 answerTo c held listPairedPhones = phones (phonesAnswer c)
-answerTo c held bleMaxBondedPhones = plain (told c (Count (c .settings .bonded)))
-answerTo c held carHasValidatedPhone = plain (told c (yesNo (carHasValidated c)))
+answerTo c held bleMaxBondedPhones = plain (ifInRange c (Count (c .settings .bonded)))
+answerTo c held carHasValidatedPhone = plain (ifInRange c (yesNo (carHasValidated c)))
 answerTo c held blePeer = peer (peerAnswer c)
 answerTo c held (phoneAccessState clock) = phoneAccess (phoneAccessAnswer c clock)
 answerTo c held validationMethods = methods (methodsAnswer c)
-answerTo c held (sessionFor phone clock) = plain (told c (sessionShown c phone clock))
+answerTo c held (sessionFor phone clock) = plain (ifInRange c (sessionShown c phone clock))
 answerTo c held currentValidationChallenge = challenge (challengeAnswer c held)
 answerTo c held encodePhoneValidations = saved (recordAnswer c)

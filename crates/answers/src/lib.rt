@@ -1,8 +1,8 @@
 // What the queries answer, on a core in range or out of it (25). No query changes the gate or raises a signal.
 
 use phone_trust::Trust;
-use phones::PhoneId;
 use phones::PhoneList;
+use phones::ShortId;
 use policy::Approval;
 use saved_record::SavedRecord;
 use state::Answer;
@@ -43,7 +43,7 @@ pub struct TrustAnswer {
 // The connected phone, and whether it is validated.
 pub struct PeerAnswer {
     pub answer: Answer,
-    pub peer: PhoneId,
+    pub peer: ShortId,
     pub validated: bool,
 }
 
@@ -51,7 +51,7 @@ pub struct PeerAnswer {
 pub struct PhoneAccessAnswer {
     pub answer: Answer,
     pub trust: Trust,
-    pub validated: bool,
+    pub car_has_validated: bool,
     pub session: Answer,
 }
 

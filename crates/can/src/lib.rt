@@ -27,16 +27,16 @@ pub fn set_can_read_only(core: Core, enabled: bool) -> Said
     let policy = core.policy;
     let flag = lock_asked(policy, enabled);
     let mut buses = policy.buses;
-    buses.locked = flag;
+    buses.vehicle_read_only = flag;
     let p = policy_changes::with_buses(policy, buses);
     let answer = policy_changes::yes_no(policy::is_can_read_only(p));
     if enabled {
         let probe = core.probe;
         let counted = policy_changes::relocked(probe);
         let c = state::parts::with_probe(core, counted);
-        return policy_changes::changed(c, answer, p);
+        return policy_changes::policy_changed(c, answer, p);
     }
-    policy_changes::changed(core, answer, p)
+    policy_changes::policy_changed(core, answer, p)
 }
 
 pub fn note_can_logging(core: Core, on: bool) -> Said
@@ -47,7 +47,7 @@ pub fn note_can_logging(core: Core, on: bool) -> Said
     buses.logging = on;
     let p = policy_changes::with_buses(policy, buses);
     let c = state::parts::with_policy(core, p);
-    state::replies::leave(c, Answer::Done)
+    state::replies::quiet(c, Answer::Done)
 }
 
 // Nothing for a bus above 3.
@@ -61,7 +61,7 @@ pub fn note_can_fd_bus(core: Core, bus: u8, on: bool) -> Said
         buses.fd[i] = on;
         let p = policy_changes::with_buses(policy, buses);
         let c = state::parts::with_policy(core, p);
-        return state::replies::leave(c, Answer::Done);
+        return state::replies::quiet(c, Answer::Done);
     }
     state::replies::leave(core, Answer::Done)
 }

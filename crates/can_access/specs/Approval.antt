@@ -1,6 +1,6 @@
 -- The calls on the approval (can_access.rs). Each raises the read-only state as it is afterwards.
 use mathlib.Core.Bool.{Bool, true, cond, not, _&&_}
-use mathlib.Core.List.{List}
+use mathlib.Core.List.{List, [], _∷_}
 use Prim.Native.Nat.{ℕ}
 use lib.Dec.{ltb}
 use lib.ListN.{length}
@@ -13,9 +13,10 @@ use Rattle.state.specs.declared.Core.{Core}
 use Rattle.state.specs.declared.Answer.the-variants.{Done, CarNotIdentified}
 use Rattle.state.specs.declared.Said.{Said}
 use Rattle.state.specs.Parts.{withPolicy, withValidations}
-use Rattle.state.specs.Replies.{noCar, approvalChanged, approvalCleared, leave, reply}
+use Rattle.state.specs.Replies.{noCar, approvalChanged, approvalCleared, reply}
+use Rattle.state.specs.Checks.{_refuses_, checked}
 use Rattle.policy.specs.Policy.{fingerprintConfirmed, isReadOnly}
-use Rattle.policy_changes.specs.Changes.{withAccess, accessOf, changed}
+use Rattle.policy_changes.specs.Changes.{withAccess, withApproval, policyChanged}
 use Rattle.validations.specs.Store.{noValidations}
 
 -- ---- approval
@@ -33,14 +34,14 @@ approvedAs c car p =
 -- approve_can_read_write
 unfoldable pub approve : Core → Said
 approve c =
-    cond (fingerprintConfirmed (c .policy .identity))
-    (approvedAs c (c .policy .identity .car) (withAccess (c .policy) (accessOf (c .policy .access) (c .policy .identity .car))))
-    (leave c CarNotIdentified)
+    checked c
+    ((not (fingerprintConfirmed (c .policy .identity)) refuses CarNotIdentified) ∷ [])  -- 2
+    (approvedAs c (c .policy .identity .car) (withAccess (c .policy) (withApproval (c .policy .access) (c .policy .identity .car))))
 
 -- revoke_can_read_write_approval
 unfoldable pub revokeApproval : Core → Said
 revokeApproval c =
-    let p = withAccess (c .policy) (accessOf (c .policy .access) noCar) in
+    let p = withAccess (c .policy) (withApproval (c .policy .access) noCar) in
     reply (withPolicy c p) Done (approvalChanged noCar (isReadOnly p))
 
 unfoldable pub knownOrNone : Car → Car
@@ -48,4 +49,4 @@ knownOrNone car = cond (car .known) car noCar
 
 -- restore_can_read_write_approval: a digest, or none
 unfoldable pub restoreApproval : Core → Car → Said
-restoreApproval c car = changed c Done (withAccess (c .policy) (accessOf (c .policy .access) (knownOrNone car)))
+restoreApproval c car = policyChanged c Done (withAccess (c .policy) (withApproval (c .policy .access) (knownOrNone car)))

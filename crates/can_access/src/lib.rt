@@ -85,5 +85,5 @@ pub fn restore_can_read_write_approval(core: Core, approval: Car) -> Said
     let mut access = policy.access;
     access.approval = kept;
     let p = policy_changes::with_access(policy, access);
-    policy_changes::changed(core, Answer::Done, p)
+    policy_changes::policy_changed(core, Answer::Done, p)
 }

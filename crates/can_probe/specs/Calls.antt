@@ -1,8 +1,8 @@
 -- The calls of the identity probe (can_probe.rs).
 use mathlib.Core.Bool.{Bool, cond, not, _&&_}
-use mathlib.Core.List.{List}
+use mathlib.Core.List.{List, [], _∷_}
 use Prim.Native.Nat.{ℕ, _+_}
-use lib.Dec.{ltb}
+use lib.Dec.{leb}
 use lib.ListN.{set, take}
 use Rattle.frames.specs.declared.ProbeFrame.{ProbeFrame}
 use Rattle.frames.specs.Frames.{busExists}
@@ -14,7 +14,8 @@ use Rattle.state.specs.declared.Answer.the-variants.{Done, Yes, No, Invalid, No
 use Rattle.state.specs.declared.Said.{Said}
 use Rattle.state.specs.Parts.{withProbe}
 use Rattle.range.specs.Range.{within}
-use Rattle.state.specs.Replies.{readOnlyChanged, leave, reply}
+use Rattle.state.specs.Replies.{readOnlyChanged, leave, quiet, reply}
+use Rattle.state.specs.Checks.{_refuses_, checked}
 use Rattle.policy.specs.Policy.{isReadOnly, isFdBus}
 use Rattle.probe_window.specs.Window.{withWindow, markOf, isBusAwake, probeNeeded, idsInRange, noWindow, newWindow}
 
@@ -32,12 +33,13 @@ windowChanged c a b = reply (withProbe c b) a (readOnlyChanged (isReadOnly (c .p
 -- open_identity_probe
 unfoldable pub openProbe : Core → ℕ → List ProbeFrame → ℕ → ℕ → Said
 openProbe c bus frames count clock =
-    cond (not (isValidProbe (c .policy) bus frames count)) (leave c Invalid)
-    (cond (not (probeNeeded (c .policy .identity))) (leave c NotNeeded)
-    (cond (c .policy .buses .logging) (leave c Logging)
-    (cond (not (isBusAwake (c .probe .marks) bus clock)) (leave c BusAsleep)
-    (cond (c .probe .window .present) (leave c Busy)
-    (cond (ltb (c .probe .attempts) 5)
+    checked c
+    ((not (isValidProbe (c .policy) bus frames count) refuses Invalid) ∷  -- 17
+    (not (probeNeeded (c .policy .identity)) refuses NotNeeded) ∷  -- 12
+    (c .policy .buses .logging refuses Logging) ∷  -- 13
+    (not (isBusAwake (c .probe .marks) bus clock) refuses BusAsleep) ∷  -- 14
+    (c .probe .window .present refuses Busy) ∷  -- 15
+    (leb 5 (c .probe .attempts) refuses NoAttemptsLeft) ∷ [])  -- 16
     (windowChanged c Done
     (record {
       window = newWindow bus (take count frames) clock (c .probe .relocks);
@@ -45,7 +47,6 @@ openProbe c bus frames count clock =
       relocks = c .probe .relocks;
       marks = c .probe .marks;
     }))
-    (leave c NoAttemptsLeft))))))
 
 -- ProbeWindow's drop; no, without a signal, if none was opened since the last close
 unfoldable pub closeProbe : Core → Said
@@ -57,5 +58,5 @@ closeProbe c = cond (c .probe .window .present) (windowChanged c Yes (withWindow
 unfoldable pub heard : Core → ℕ → ℕ → Said
 heard c bus clock =
     cond (busExists bus)
-    (leave (withProbe c (record { window = c .probe .window; attempts = c .probe .attempts; relocks = c .probe .relocks; marks = set (c .probe .marks) bus (markOf clock) })) Done)
+    (quiet (withProbe c (record { window = c .probe .window; attempts = c .probe .attempts; relocks = c .probe .relocks; marks = set (c .probe .marks) bus (markOf clock) })) Done)
     (leave c Done)

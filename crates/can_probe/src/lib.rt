@@ -97,7 +97,7 @@ pub fn heard_can_frame(core: Core, bus: u8, clock: u64) -> Said
         let marks = probe_window::with_mark(old, bus, mark);
         b.marks = marks;
         let c = state::parts::with_probe(core, b);
-        return state::replies::leave(c, Answer::Done);
+        return state::replies::quiet(c, Answer::Done);
     }
     state::replies::leave(core, Answer::Done)
 }

@@ -1,17 +1,18 @@
 -- The check of every outbound frame (can_probe.rs).
 use mathlib.Core.Bool.{Bool, cond, not, _&&_}
-use mathlib.Core.List.{List}
+use mathlib.Core.List.{List, [], _∷_}
 use Prim.Native.Nat.{ℕ}
 use lib.Dec.{eqb}
 use Rattle.frames.specs.declared.CanFrame.{CanFrame}
 use Rattle.frames.specs.declared.TxClass.{TxClass}
 use Rattle.frames.specs.declared.TxClass.the-variants.{Platform, Command}
-use Rattle.frames.specs.Frames.{idInRange}
+use Rattle.frames.specs.Frames.{canIdInRange}
 use Rattle.state.specs.declared.Core.{Core}
 use Rattle.state.specs.declared.Answer.the-variants.{Yes, No, BadFrame}
 use Rattle.state.specs.declared.Said.{Said}
 use Rattle.state.specs.Parts.{withProbe}
-use Rattle.state.specs.Replies.{leave}
+use Rattle.state.specs.Replies.{leave, quiet}
+use Rattle.state.specs.Checks.{_refuses_, checked}
 use Rattle.policy.specs.Policy.{isBusReadOnly}
 use Rattle.policy_changes.specs.Changes.{yesNo}
 use Rattle.phone_trust.specs.Trust.{isValidated}
@@ -22,7 +23,7 @@ use Rattle.probe_window.specs.Window.{withWindow, isOpen, unsentIn, markedSent}
 -- a frame that only an open window lets through: the first unsent equal entry is marked
 abbrev pub passed : Core → Unsent → Said
 passed c Nothing = leave c No
-passed c (At i) = leave (withProbe c (withWindow (c .probe) (markedSent (c .probe .window) i))) Yes
+passed c (At i) = quiet (withProbe c (withWindow (c .probe) (markedSent (c .probe .window) i))) Yes
 
 unfoldable pub throughWindow : Core → ℕ → CanFrame → ℕ → Said
 throughWindow c bus frame clock =
@@ -45,4 +46,6 @@ allowClass c bus frame owner clock Command = leave c (yesNo (allowsCommand c bus
 -- allow_can_tx; 24 for an id out of range
 unfoldable pub allow : Core → ℕ → CanFrame → TxClass → List ℕ → ℕ → Said
 allow c bus frame class owner clock =
-    cond (idInRange (frame .id)) (allowClass c bus frame owner clock class) (leave c BadFrame)
+    checked c
+    ((not (canIdInRange (frame .id)) refuses BadFrame) ∷ [])  -- 24
+    (allowClass c bus frame owner clock class)

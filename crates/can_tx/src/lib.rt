@@ -26,7 +26,7 @@ fn passed(core: Core, found: Unsent) -> Said
             let marked = probe_window::marked_sent(w, i);
             let next = probe_window::with_window(b, marked);
             let c = state::parts::with_probe(core, next);
-            state::replies::leave(c, Answer::Yes)
+            state::replies::quiet(c, Answer::Yes)
         }
     }
 }
@@ -92,7 +92,7 @@ pub fn allow_can_tx(
     ensures { λ r. ⌜ r ≡ Tx.allow core bus frame class (now (owner .entry)) clock ⌝ }
 {
     let id = frame.id;
-    if frames::id_in_range(id) {
+    if frames::can_id_in_range(id) {
         return match class {
             TxClass::Platform => allow_platform(core, bus, frame, clock),
             TxClass::Command => {

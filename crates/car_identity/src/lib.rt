@@ -13,7 +13,7 @@ pub fn confirm_car_identity(core: Core) -> Said
     let mut identity = policy.identity;
     identity.confirmed = true;
     let p = policy_changes::with_identity(policy, identity);
-    policy_changes::changed(core, Answer::Done, p)
+    policy_changes::policy_changed(core, Answer::Done, p)
 }
 
 pub fn revoke_car_identity(core: Core) -> Said
@@ -29,9 +29,9 @@ pub fn revoke_car_identity(core: Core) -> Said
     identity.car = none;
     let forgotten = policy_changes::with_identity(policy, identity);
     let mut buses = policy.buses;
-    buses.locked = true;
+    buses.vehicle_read_only = true;
     let p = policy_changes::with_buses(forgotten, buses);
-    policy_changes::changed(c, Answer::Done, p)
+    policy_changes::policy_changed(c, Answer::Done, p)
 }
 
 pub fn confirm_car_fingerprint(core: Core, fingerprint: &[u8]) -> Said
@@ -54,7 +54,7 @@ pub fn confirm_car_fingerprint(core: Core, fingerprint: &[u8]) -> Said
         };
         identity.car = car;
         let p = policy_changes::with_identity(policy, identity);
-        return policy_changes::changed(core, Answer::Yes, p);
+        return policy_changes::policy_changed(core, Answer::Yes, p);
     }
     state::replies::leave(core, Answer::No)
 }
@@ -67,5 +67,5 @@ pub fn note_platform_id(core: Core, number: u32) -> Said
     identity.platform = number;
     let p = policy_changes::with_identity(policy, identity);
     let c = state::parts::with_policy(core, p);
-    state::replies::leave(c, Answer::Done)
+    state::replies::quiet(c, Answer::Done)
 }

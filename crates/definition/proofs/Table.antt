@@ -62,7 +62,7 @@ settings = record { digits = 4; tries = 3; session = 60_000; cooldown = 30_000; 
 
 -- "code"
 abbrev method : Method
-method = record { id = idOf (99 ∷ 111 ∷ 100 ∷ 101 ∷ []); kind = CodeEntry; approval = false }
+method = record { id = idOf (99 ∷ 111 ∷ 100 ∷ 101 ∷ []); kind = CodeEntry; «needs_approval» = false }
 
 abbrev made : Gate
 made = step record { core = New.newCore New.leastSettings (New.newMethods [] 0); code = Replies.noCode } (newGateCall settings (method ∷ []) 1) .gate
@@ -242,7 +242,7 @@ unfolding Policy.approvedCar Policy.allowsReadWrite Policy.isReadOnly Policy.isF
 openAccess2 = tt
 
 unfoldable openAccess3 : Unit {0}
-unfolding Policy.reason Changes.changed Access.ofOtherCar Access.approvedAs Access.approve Access.revokeApproval
+unfolding Policy.reason Changes.policyChanged Access.ofOtherCar Access.approvedAs Access.approve Access.revokeApproval
 openAccess3 = tt
 
 unfoldable openAccess4 : Unit {0}
@@ -262,7 +262,7 @@ unfolding Trust.isPaired Trust.ofThisCar Trust.isValidated Trust.carHasValidated
 openPhones1 = tt
 
 unfoldable openPhones2 : Unit {0}
-unfolding Store.storeOf Store.stored Store.forgetting Store.forget Store.prune Store.restore Trust.told Pairing.pair
+unfolding Store.storeOf Store.stored Store.forgetting Store.forget Store.prune Store.restore Trust.notified Pairing.pair
 openPhones2 = tt
 
 unfoldable openPhones3 : Unit {0}
@@ -318,7 +318,7 @@ unfolding Validation.complete Methods.isPlace Methods.noteAvailable Methods.note
 openSessions8 = tt
 
 unfoldable openAnswers1 : Unit {0}
-unfolding Query.answerTo Answers.told Answers.approvalAnswer Answers.accessAnswer Answers.phonesAnswer Answers.trustAnswer
+unfolding Query.answerTo Answers.ifInRange Answers.approvalAnswer Answers.accessAnswer Answers.phonesAnswer Answers.trustAnswer
 openAnswers1 = tt
 
 unfoldable openAnswers2 : Unit {0}

@@ -36,7 +36,7 @@ use Rattle.new_gate.specs.New.{newGate}
 
 -- ---- the calls
 
--- the calls that change the gate and take nothing that one phone may keep from another
+-- the calls that change the gate and are given the same arguments in both runs of demand 3
 pub data Change : Type 0 where
   cancelValidation : (phone : List ℕ) (clock : ℕ) → Change
   completeValidationAction : (session clock : ℕ) → Change

@@ -15,7 +15,7 @@ pub fn set_can_dev_write_unlocked(core: Core, unlocked: bool) -> Said
     }
     access.unlocked = unlocked;
     let p = policy_changes::with_access(policy, access);
-    policy_changes::changed(core, Answer::Done, p)
+    policy_changes::policy_changed(core, Answer::Done, p)
 }
 
 pub fn declare_production_build(core: Core) -> Said
@@ -25,5 +25,5 @@ pub fn declare_production_build(core: Core) -> Said
     let mut access = policy.access;
     access.production = true;
     let p = policy_changes::with_access(policy, access);
-    policy_changes::changed(core, Answer::Done, p)
+    policy_changes::policy_changed(core, Answer::Done, p)
 }

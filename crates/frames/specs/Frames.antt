@@ -16,9 +16,9 @@ rawOf (Standard n) = n
 rawOf (Extended n) = n
 
 -- 01, Allow a frame: a standard id does not exceed 0x7FF, an extended one not 0x1FFFFFFF
-abbrev pub idInRange : Id → Bool
-idInRange (Standard n) = leb n 0x7FF
-idInRange (Extended n) = leb n 0x1FFFFFFF
+abbrev pub canIdInRange : Id → Bool
+canIdInRange (Standard n) = leb n 0x7FF
+canIdInRange (Extended n) = leb n 0x1FFFFFFF
 
 -- 01, Allow a frame: standard and extended ids with one number differ
 abbrev pub sameId : Id → Id → Bool

@@ -1,7 +1,7 @@
 // CAN ids and frames, the class of a frame to send, the buses.
 ghost use mathlib.Core.Path.{_≡_};
 ghost use Rattle.arrays.specs.Arrays.{sameBytes};
-ghost use Rattle.frames.specs.Frames.{rawOf, idInRange, sameId, isEntry, busExists, isCommand};
+ghost use Rattle.frames.specs.Frames.{rawOf, canIdInRange, sameId, isEntry, busExists, isCommand};
 
 // A CAN identifier, 11 bits wide or 29. The number is as lent, in range or not.
 pub enum Id {
@@ -44,8 +44,8 @@ pub fn id_raw(id: Id) -> u32
 }
 
 // Whether the number fits the id's width.
-pub fn id_in_range(id: Id) -> bool
-    ensures { λ r. ⌜ r ≡ idInRange id ⌝ }
+pub fn can_id_in_range(id: Id) -> bool
+    ensures { λ r. ⌜ r ≡ canIdInRange id ⌝ }
 {
     match id {
         Id::Standard(n) => n <= 0x7FF,

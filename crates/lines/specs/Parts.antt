@@ -21,7 +21,7 @@ idsFrom i (x ∷ xs) p = idsFrom (i + 1) xs (idAt i x p)
 
 -- ID/KIND/APPROVAL
 unfoldable pub method : Method → Page → Page
-method m p = p ▸ bytes (idBytes (m .id)) ▸ text (ascii "/") ▸ text (kindName (m .kind)) ▸ flag (ascii "/") (m .approval)
+method m p = p ▸ bytes (idBytes (m .id)) ▸ text (ascii "/") ▸ text (kindName (m .kind)) ▸ flag (ascii "/") (m .«needs_approval»)
 
 -- n digits as bytes, or `-` for none
 unfoldable pub digits : List ℕ → ℕ → Page → Page

@@ -1,6 +1,6 @@
 // Parts of lines: ids and lists of them, methods, saved records, digits.
-use phones::PhoneId;
 use phones::PhoneList;
+use phones::ShortId;
 use saved_record::SavedRecord;
 use state::Method;
 ghost use mathlib.Core.Path.{_≡_};
@@ -11,7 +11,7 @@ ghost use Rattle.lines.specs.Page.{page, bytes};
 ghost use Rattle.lines.specs.Parts.{idAt, idsFrom, method, digits};
 
 // An id.
-pub fn put_phone(out: &mut [u8], at: usize, p: PhoneId) -> usize
+pub fn put_phone(out: &mut [u8], at: usize, p: ShortId) -> usize
     ensures { λ r. ⌜ page (now (out .exit)) r ≡ bytes (idBytes p) (page (now (out .entry)) at) ⌝ }
 {
     let all = p.bytes;
@@ -51,7 +51,7 @@ pub fn put_method(out: &mut [u8], at: usize, m: Method) -> usize
     let k = crate::put_text(out, k, b"/");
     let what = m.kind;
     let k = crate::answer::put_kind(out, k, what);
-    crate::put_flag(out, k, b"/", m.approval)
+    crate::put_flag(out, k, b"/", m.needs_approval)
 }
 
 // A saved record.

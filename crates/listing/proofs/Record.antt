@@ -17,7 +17,7 @@ use Rattle.reader.proofs.Laws.{field-whole}
 use Rattle.phones.specs.Phones.{phonesOf}
 use Rattle.phones.proofs.Laws.{phones-of-list}
 use Rattle.saved_record.specs.declared.Decoded.{Decoded}
-use Rattle.saved_record.specs.declared.RecordAnswer.the-variants.{Restored, Malformed, TooLarge}
+use Rattle.saved_record.specs.declared.RecordVerdict.the-variants.{Restored, Malformed, TooLarge}
 use Rattle.saved_record.specs.SavedRecord.{Reading, malformed, tooLarge, ok, field, fields, encoded, anyLong, overLimits, decoded, refusal, restored}
 use Rattle.saved_record.proofs.RoundTrip.{accepted-well-formed}
 use Rattle.listing.specs.declared.Listing.{Listing}

@@ -1,6 +1,6 @@
 // What the listing program prints for a record.
 use reader::Field;
-use saved_record::RecordAnswer;
+use saved_record::RecordVerdict;
 ghost use mathlib.Core.Path.{_≡_};
 ghost use mathlib.Core.List.{[], _∷_};
 ghost use Prim.Native.Nat.{_+_, _≤_, _<_};
@@ -108,12 +108,12 @@ pub fn list_record(input: &[u8]) -> Listing
     let read = saved_record::decode_phone_validations(input);
     let answer = read.answer;
     match answer {
-        RecordAnswer::Restored => {
+        RecordVerdict::Restored => {
             let car = read.car;
             let count = phones::count(read.phones);
             accepted(input, car, count)
         }
-        RecordAnswer::Malformed => refused(),
-        RecordAnswer::TooLarge => refused(),
+        RecordVerdict::Malformed => refused(),
+        RecordVerdict::TooLarge => refused(),
     }
 }

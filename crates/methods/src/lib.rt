@@ -36,7 +36,7 @@ pub fn note_method_available(core: Core, at: usize, on: bool) -> Said
         let more = noted(notes, at, on);
         m.available = more;
         let c = state::parts::with_methods(core, m);
-        return state::replies::leave(c, Answer::Done);
+        return state::replies::quiet(c, Answer::Done);
     }
     state::replies::leave(core, Answer::Done)
 }
@@ -50,7 +50,7 @@ pub fn note_method_can_continue(core: Core, at: usize, on: bool) -> Said
         let more = noted(notes, at, on);
         m.continues = more;
         let c = state::parts::with_methods(core, m);
-        return state::replies::leave(c, Answer::Done);
+        return state::replies::quiet(c, Answer::Done);
     }
     state::replies::leave(core, Answer::Done)
 }

@@ -1,6 +1,6 @@
 -- New gate: read-only, with the source's starting statics.
 use mathlib.Core.Bool.{Bool, true, false, cond, _&&_}
-use mathlib.Core.List.{List, []}
+use mathlib.Core.List.{List, [], map}
 use Prim.Native.Nat.{ℕ}
 use lib.ListN.{replicate, take}
 use Rattle.arrays.specs.Arrays.{padded}
@@ -18,8 +18,8 @@ use Rattle.state.specs.declared.Gate.{Gate}
 use Rattle.state.specs.declared.Answer.{Answer}
 use Rattle.state.specs.declared.Answer.the-variants.{Done, BadSettings}
 use Rattle.state.specs.declared.Outcome.{Outcome}
-use Rattle.state.specs.Running.{noMethod}
-use Rattle.range.specs.Range.{settingsFit, methodsFit}
+use Rattle.state.specs.Running.{noMethod, cleanMethod}
+use Rattle.range.specs.Range.{settingsFit, methodsIn}
 use Rattle.state.specs.Replies.{noCar, noSignals, noCode}
 use Rattle.validations.specs.Store.{noValidations}
 use Rattle.probe_window.specs.Window.{noWindow}
@@ -31,15 +31,15 @@ abbrev pub newPolicy : Policy
 newPolicy = record {
   identity = record { platform = 0; confirmed = false; car = noCar };
   access = record { approval = noCar; unlocked = false; production = false };
-  buses = record { locked = true; logging = false; fd = replicate 4 false };
+  buses = record { «vehicle_read_only» = true; logging = false; fd = replicate 4 false };
 }
 
 abbrev pub newProbe : Probe
 newProbe = record { window = noWindow; attempts = 0; relocks = 0; marks = replicate 4 0 }
 
--- the methods in use, none past them; each may start and go on
+-- the methods in use, with zeros past the length of each id, and none past them; each may start and go on
 unfoldable pub newMethods : List Method → ℕ → Methods
-newMethods list count = record { list = padded 8 noMethod (take count list); count = count; available = replicate 8 true; continues = replicate 8 true }
+newMethods list count = record { list = padded 8 noMethod (take count (map cleanMethod list)); count = count; available = replicate 8 true; continues = replicate 8 true }
 
 unfoldable pub newCore : Settings → Methods → Core
 newCore settings methods = record {
@@ -49,7 +49,7 @@ newCore settings methods = record {
   paired = listOf [];
   validations = noValidations;
   peer = idOf [];
-  validation = record { session = noSession; cooldown = 0; next = 1 };
+  validation = record { session = noSession; «cooldown_until» = 0; next = 1 };
   probe = newProbe;
 }
 
@@ -63,6 +63,6 @@ madeGate a core = record { answer = a; signals = noSignals; gate = record { core
 -- 25 hands back a gate without methods, each setting at its least
 unfoldable pub newGate : Settings → List Method → ℕ → Outcome
 newGate settings list count =
-    cond (settingsFit settings && methodsFit (newMethods list count))
+    cond (settingsFit settings && methodsIn list count)
     (madeGate Done (newCore settings (newMethods list count)))
     (madeGate BadSettings (newCore leastSettings (newMethods [] 0)))

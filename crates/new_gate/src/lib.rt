@@ -1,5 +1,5 @@
 // New gate: read-only, with the source's starting statics.
-use phones::PhoneId;
+use phones::ShortId;
 use state::Access;
 use state::Answer;
 use state::Buses;
@@ -18,10 +18,10 @@ use state::Validation;
 ghost use mathlib.Core.Path.{_≡_};
 ghost use lib.ListN.{take};
 ghost use Rattle.arrays.specs.Arrays.{padded};
-ghost use Rattle.state.specs.Running.{noMethod};
-ghost use Rattle.range.specs.Range.{settingsFit, methodsFit};
+ghost use Rattle.state.specs.Running.{noMethod, cleanMethod};
+ghost use Rattle.range.specs.Range.{settingsFit, methodsIn};
 ghost use mathlib.Core.Bool.{_&&_};
-ghost use mathlib.Core.List.{[]};
+ghost use mathlib.Core.List.{[], map};
 ghost use Rattle.state.specs.declared.Answer.the-variants.{BadSettings};
 ghost use Rattle.new_gate.specs.New.{noSession, newPolicy, newProbe, newMethods, newCore, leastSettings, madeGate, newGate};
 
@@ -29,7 +29,7 @@ fn no_session() -> Session
     ensures { λ r. ⌜ r ≡ noSession ⌝ }
 {
     let bytes = [0u8; 32];
-    let phone = PhoneId { bytes, len: 0 };
+    let phone = ShortId { bytes, len: 0 };
     let car = [0u8; 32];
     Session {
         present: false,
@@ -60,7 +60,7 @@ fn new_policy() -> Policy
     };
     let fd = [false; 4];
     let buses = Buses {
-        locked: true,
+        vehicle_read_only: true,
         logging: false,
         fd,
     };
@@ -84,9 +84,9 @@ fn new_probe() -> Probe
     }
 }
 
-// The methods in use, and without an id past them.
+// The methods in use, with zeros past the length of each id, and without an id past them.
 pub fn used_methods(list: [Method; 8], count: usize) -> [Method; 8]
-    ensures { λ r. ⌜ r ≡ padded 8 noMethod (take count list) ⌝ }
+    ensures { λ r. ⌜ r ≡ padded 8 noMethod (take count (map cleanMethod list)) ⌝ }
 {
     let none = state::running::no_method();
     let mut kept = [none; 8];
@@ -95,7 +95,8 @@ pub fn used_methods(list: [Method; 8], count: usize) -> [Method; 8]
         if count <= i {
             return kept;
         }
-        let m = list[i];
+        let lent = list[i];
+        let m = state::running::clean_method(lent);
         kept[i] = m;
         i += 1;
     }
@@ -124,11 +125,11 @@ fn new_core(settings: Settings, methods: Methods) -> Core
     let paired = phones::empty_list();
     let validations = validations::no_validations();
     let bytes = [0u8; 32];
-    let peer = PhoneId { bytes, len: 0 };
+    let peer = ShortId { bytes, len: 0 };
     let session = no_session();
     let validation = Validation {
         session,
-        cooldown: 0,
+        cooldown_until: 0,
         next: 1,
     };
     let probe = new_probe();
@@ -174,11 +175,11 @@ fn least_gate(list: [Method; 8]) -> Outcome
     made_gate(Answer::BadSettings, core)
 }
 
-fn fits(settings: Settings, methods: Methods) -> bool
-    ensures { λ r. ⌜ r ≡ (settingsFit settings && methodsFit methods) ⌝ }
+fn fits(settings: Settings, list: [Method; 8], count: usize) -> bool
+    ensures { λ r. ⌜ r ≡ (settingsFit settings && methodsIn list count) ⌝ }
 {
     if range::settings_fit(settings) {
-        return range::methods_fit(methods);
+        return range::methods_in(list, count);
     }
     false
 }
@@ -186,8 +187,8 @@ fn fits(settings: Settings, methods: Methods) -> bool
 pub fn new_gate(settings: Settings, list: [Method; 8], count: usize) -> Outcome
     ensures { λ r. ⌜ r ≡ newGate settings list count ⌝ }
 {
-    let methods = new_methods(list, count);
-    if fits(settings, methods) {
+    if fits(settings, list, count) {
+        let methods = new_methods(list, count);
         let core = new_core(settings, methods);
         return made_gate(Answer::Done, core);
     }

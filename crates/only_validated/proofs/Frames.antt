@@ -13,7 +13,7 @@ use Rattle.arrays.proofs.Laws.{same-bytes-is}
 use Rattle.phones.specs.Phones.{contains, phonesOf}
 use Rattle.frames.specs.declared.CanFrame.{CanFrame}
 use Rattle.frames.specs.declared.TxClass.the-variants.{Platform, Command}
-use Rattle.frames.specs.Frames.{idInRange}
+use Rattle.frames.specs.Frames.{canIdInRange}
 use Rattle.state.specs.declared.Core.{Core}
 use Rattle.state.specs.declared.Gate.{Gate}
 use Rattle.state.specs.declared.Answer.the-variants.{Yes, No, BadFrame, BadSettings}
@@ -80,7 +80,7 @@ module _ (g : Gate) (bus : ℕ) (frame : CanFrame) (owner : List ℕ) (clock : �
   unfolding step changed fill served allow leave allowsCommand isValidated ofThisCar isIdentified listed
   command-needs e =
       let c = g .core in
-      let s = sound-yes c (inRange c) (idInRange (frame .id)) _ e in
+      let s = sound-yes c (inRange c) (canIdInRange (frame .id)) _ e in
       let t = seven (eqb (frame .bus) bus) (isBusReadOnly (c .policy) bus) (fingerprintConfirmed (c .policy .identity)) (sameBytes (carNow g) (c .validations .car)) (eqb (length owner) 0) (isPaired c owner) (contains owner (phonesOf (c .validations .phones))) (yes-true c _ (s .2)) in
       record {
         sound = (s .0, s .1);
@@ -115,7 +115,7 @@ module _ (g : Gate) (bus : ℕ) (frame : CanFrame) (owner : List ℕ) (clock : �
 
   platform-needs : Allowed g bus frame Platform owner clock → Sound g frame × MaySend g bus frame clock
   unfolding step changed fill served allow leave allowPlatform throughWindow
-  platform-needs e = let s = sound-yes (g .core) (inRange (g .core)) (idInRange (frame .id)) _ e in ((s .0, s .1), go (isBusReadOnly (g .core .policy) bus) refl (s .2))
+  platform-needs e = let s = sound-yes (g .core) (inRange (g .core)) (canIdInRange (frame .id)) _ e in ((s .0, s .1), go (isBusReadOnly (g .core .policy) bus) refl (s .2))
     where
       go : (r : Bool) → isBusReadOnly (g .core .policy) bus ≡ r → plain (cond r (throughWindow (g .core) bus frame clock) (leave (g .core) Yes) .answer) ≡ plain Yes
           → MaySend g bus frame clock

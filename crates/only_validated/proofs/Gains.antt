@@ -104,7 +104,7 @@ keep-class c bus frame owner clock Platform = search (keeping, keep-passed)
 keep-class c bus frame owner clock Command = search keeping
 
 keep-locked : (c : Core) (enabled : Bool) → Keeps c (Can.setReadOnly c enabled)
-unfolding Can.setReadOnly Changes.changed
+unfolding Can.setReadOnly Changes.policyChanged
 keep-locked c true = search keeping
 keep-locked c false = search keeping
 
@@ -227,13 +227,13 @@ gain-restore g bytes = record {
 
 module _ (g : Gate) (phone typed : List ℕ) (clock : ℕ) where
   gain-wrong : Gains (By g (Gate.submitValidationCode phone typed clock)) (g .core) (Validation.wrong (g .core) clock)
-  unfolding Validation.wrong Validation.triedCore Validation.failedCore Trust.told
+  unfolding Validation.wrong Validation.triedCore Validation.failedCore Trust.notified
   gain-wrong = kept _ (g .core) _ (search keeping)
 
   gain-judged : (k : Kind) → GoesOn (g .core) clock
       → Validation.runsFor (session g) phone ≡ true → methodAt (g .core .methods) (session g .method) .kind ≡ k
       → Gains (By g (Gate.submitValidationCode phone typed clock)) (g .core) (Validation.judgeAs (g .core) clock (right (g .code) (g .core .settings .digits) typed) k)
-  unfolding Validation.runsFor isOf Validation.judge Validation.rightCode Trust.told
+  unfolding Validation.runsFor isOf Validation.judge Validation.rightCode Trust.notified
   gain-judged InCarAction t e m = kept _ (g .core) _ (search keeping)
   gain-judged CodeEntry t e m =
       gain-cond _ c (right (g .code) (c .settings .digits) typed) _ _
@@ -261,7 +261,7 @@ module _ (g : Gate) (phone typed : List ℕ) (clock : ℕ) where
           r)
 
   gain-submit : Gains (By g (Gate.submitValidationCode phone typed clock)) (g .core) (Validation.submit (g .core) phone clock (isText typed) (right (g .code) (g .core .settings .digits) typed))
-  unfolding Validation.submit Validation.submitted Trust.told
+  unfolding Validation.submit Validation.submitted Trust.notified
   gain-submit =
       gain-cond _ (g .core) (isText typed) _ _
       (λ x. gain-ticking _ (g .core) clock _ _
@@ -277,7 +277,7 @@ module _ (g : Gate) where
   keep k h = kept _ (g .core) _ h
 
   gain-changed : (k : Change) → Gains (By g (Gate.change k)) (g .core) (changed (g .core) k)
-  unfolding changed Validation.cancel Validation.tick Methods.noteAvailable Methods.noteContinue Pairing.pair Pairing.clear Store.forget Pairing.setPeer Trust.told Store.stored Access.approve Access.approvedAs Access.revokeApproval Access.restoreApproval DevLock.setDevUnlocked DevLock.declareProduction CarIdentity.confirmPlatform CarIdentity.revokePlatform CarIdentity.confirmFingerprint CarIdentity.notePlatform Can.noteLogging Can.noteFdBus Changes.changed Probe.openProbe Probe.closeProbe Probe.windowChanged Tx.allow Probe.heard
+  unfolding changed Validation.cancel Validation.tick Methods.noteAvailable Methods.noteContinue Pairing.pair Pairing.clear Store.forget Pairing.setPeer Trust.notified Store.stored Access.approve Access.approvedAs Access.revokeApproval Access.restoreApproval DevLock.setDevUnlocked DevLock.declareProduction CarIdentity.confirmPlatform CarIdentity.revokePlatform CarIdentity.confirmFingerprint CarIdentity.notePlatform Can.noteLogging Can.noteFdBus Changes.policyChanged Probe.openProbe Probe.closeProbe Probe.windowChanged Tx.allow Probe.heard
   gain-changed (Gate.cancelValidation phone clock) = keep _ (search (keeping, keep-end))
   gain-changed (Gate.completeValidationAction number clock) = gain-complete g number clock
   gain-changed (Gate.tickValidation clock) = gain-ticking _ (g .core) clock _ _ (λ t. kept _ (g .core) _ (search keeping))

@@ -7,7 +7,7 @@ use lib.Dec.{eqb, ltb}
 use lib.ListN.{length, replicate}
 use Rattle.arrays.specs.Arrays.{sameBytes}
 use Rattle.arrays.proofs.Laws.{same-bytes-is}
-use Rattle.phones.specs.declared.PhoneId.{PhoneId}
+use Rattle.phones.specs.declared.ShortId.{ShortId}
 use Rattle.phones.specs.Phones.{idBytes, phonesOf, listOf, someOf, kept, contains, appended}
 use Rattle.phones.proofs.Laws.{phones-of-list}
 use Rattle.phones.proofs.Members.{contains-append}
@@ -76,7 +76,7 @@ less-kept f v = go (eqb (length (kept f (phonesOf (v .phones)))) 0)
 
 -- ---- one more is listed
 
-module _ (v : Validations) (at : List ℕ) (p : PhoneId) (car phone : List ℕ) (was : listed v car phone ≡ false) where
+module _ (v : Validations) (at : List ℕ) (p : ShortId) (car phone : List ℕ) (was : listed v car phone ≡ false) where
   -- the list goes on: who is in it now was, or is p
   appended-is : sameBytes (v .car) at ≡ true → listed (record { car = v .car; phones = appended (v .phones) (idBytes p) }) car phone ≡ true → (at ≡ car) × (idBytes p ≡ phone)
   unfolding listed appended

@@ -57,7 +57,7 @@ Allowed g bus frame class owner clock = step g (change (allowCanTx bus frame cla
 
 -- what every frame needs: the gate is in range, and so is the frame's id
 abbrev pub Sound : Gate → CanFrame → Type 0
-Sound g frame = (inRange (g .core) ≡ true) × (Frames.idInRange (frame .id) ≡ true)
+Sound g frame = (inRange (g .core) ≡ true) × (Frames.canIdInRange (frame .id) ≡ true)
 
 -- what a command needs: a frame for that bus, the bus read-write, a car identified now, and an owner that has an id, is paired, and is
 -- listed for this car

@@ -5,20 +5,20 @@ use mathlib.Core.List.{List, []}
 use Prim.Native.Nat.{ℕ}
 use lib.Dec.{ltb}
 use lib.ListN.{length}
-use Rattle.phones.specs.declared.PhoneId.{PhoneId}
+use Rattle.phones.specs.declared.ShortId.{ShortId}
 use Rattle.phones.specs.declared.MadeId.{MadeId}
 use Rattle.phones.specs.Phones.{idBytes, idOf, madeId}
 use Rattle.phones.proofs.Laws.{bytes-of-id}
 
-ok-tells : (t : Bool) (m : MadeId) (a b : PhoneId) → m ≡ cond t (record { ok = false; id = a }) (record { ok = true; id = b }) → m .ok ≡ true → t ≡ false
+ok-tells : (t : Bool) (m : MadeId) (a b : ShortId) → m ≡ cond t (record { ok = false; id = a }) (record { ok = true; id = b }) → m .ok ≡ true → t ≡ false
 ok-tells true m a b e ok = absurd (false≢true (sym (ap (λ (x : MadeId). x .ok) e) ∙ ok))
 ok-tells false m a b e ok = refl
 
-no-tells : (t : Bool) (m : MadeId) (a b : PhoneId) → m ≡ cond t (record { ok = false; id = a }) (record { ok = true; id = b }) → m .ok ≡ false → t ≡ true
+no-tells : (t : Bool) (m : MadeId) (a b : ShortId) → m ≡ cond t (record { ok = false; id = a }) (record { ok = true; id = b }) → m .ok ≡ false → t ≡ true
 no-tells true m a b e f = refl
 no-tells false m a b e f = absurd (true≢false (sym (ap (λ (x : MadeId). x .ok) e) ∙ f))
 
-id-tells : (t : Bool) (m : MadeId) (a b : PhoneId) → m ≡ cond t (record { ok = false; id = a }) (record { ok = true; id = b }) → m .ok ≡ true → m .id ≡ b
+id-tells : (t : Bool) (m : MadeId) (a b : ShortId) → m ≡ cond t (record { ok = false; id = a }) (record { ok = true; id = b }) → m .ok ≡ true → m .id ≡ b
 id-tells true m a b e ok = absurd (false≢true (sym (ap (λ (x : MadeId). x .ok) e) ∙ ok))
 id-tells false m a b e ok = ap (λ (x : MadeId). x .id) e
 

@@ -15,16 +15,16 @@ pub fn add_paired_phone(core: Core, id: &[u8]) -> Said
             return state::replies::leave(core, Answer::No);
         }
         if phone_trust::is_paired(core, id) {
-            return phone_trust::told(core, Answer::Yes);
+            return phone_trust::notified(core, Answer::Yes);
         }
         let paired = core.paired;
         if phones::count(paired) < core.settings.bonded {
             let p = made.id;
             let more = phones::append(paired, p);
             let c = state::parts::with_paired(core, more);
-            return phone_trust::told(c, Answer::Yes);
+            return phone_trust::notified(c, Answer::Yes);
         }
-        return phone_trust::told(core, Answer::No);
+        return phone_trust::notified(core, Answer::No);
     }
     state::replies::leave(core, Answer::IdTooLong)
 }
@@ -54,7 +54,7 @@ pub fn clear_paired_phones(core: Core) -> Said
         return validations::stored(c, answer, v);
     }
     let cleared = state::parts::with_validations(c, v);
-    state::replies::leave(cleared, answer)
+    state::replies::quiet(cleared, answer)
 }
 
 pub fn set_ble_peer(core: Core, id: &[u8]) -> Said
@@ -66,9 +66,9 @@ pub fn set_ble_peer(core: Core, id: &[u8]) -> Said
         let next = made.id;
         let c = state::parts::with_peer(core, next);
         if phones::id_is(peer, id) {
-            return state::replies::leave(c, Answer::Done);
+            return state::replies::quiet(c, Answer::Done);
         }
-        return phone_trust::told(c, Answer::Done);
+        return phone_trust::notified(c, Answer::Done);
     }
     state::replies::leave(core, Answer::IdTooLong)
 }

@@ -36,5 +36,5 @@ trustOf c id = cond (isPaired c id) (cond (isValidated c id) Validated Bonded) N
 -- ---- the signals
 
 -- notify_phone_access_changed, with an answer
-unfoldable pub told : Core → Answer → Said
-told c a = reply c a phoneAccessChanged
+unfoldable pub notified : Core → Answer → Said
+notified c a = reply c a phoneAccessChanged

@@ -68,8 +68,8 @@ pub fn phone_trust_level(core: Core, id: &[u8]) -> Trust
 }
 
 // An answer with the phone access signals.
-pub fn told(core: Core, answer: Answer) -> Said
-    ensures { λ r. ⌜ r ≡ Levels.told core answer ⌝ }
+pub fn notified(core: Core, answer: Answer) -> Said
+    ensures { λ r. ⌜ r ≡ Levels.notified core answer ⌝ }
 {
     let signals = state::replies::phone_access_changed();
     state::replies::reply(core, answer, signals)

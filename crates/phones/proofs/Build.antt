@@ -8,13 +8,13 @@ use native.Mathlib.Omega.{arith}
 use lib.ListN.{length, take, getD, set, length-append, length-map}
 use lib.Seq.{take-suc}
 use Rattle.arrays.proofs.Laws.{padded-push}
-use Rattle.phones.specs.declared.PhoneId.{PhoneId}
+use Rattle.phones.specs.declared.ShortId.{ShortId}
 use Rattle.phones.specs.declared.PhoneList.{PhoneList}
 use Rattle.phones.specs.Phones.{idBytes, idOf, listOf, phonesOf, kept}
 use Rattle.phones.proofs.Laws.{noId, phones-at}
 
 -- an id stored at k, right after those that are there
-pub stored : (out : PhoneList) (q : PhoneId) (ps : List (List ℕ)) (s : List ℕ) (k : ℕ) → out ≡ listOf ps → q ≡ idOf s → k ≡ length ps → k < 32
+pub stored : (out : PhoneList) (q : ShortId) (ps : List (List ℕ)) (s : List ℕ) (k : ℕ) → out ≡ listOf ps → q ≡ idOf s → k ≡ length ps → k < 32
     → _≡_ {A = PhoneList} (record { ids = set (out .ids) k q; count = k + 1 }) (listOf (ps ++ (s ∷ [])))
 unfolding listOf
 stored out q ps s k e f g h =
@@ -54,7 +54,7 @@ module _
   next : kept f (take (i + 1) (phonesOf l)) ≡ kept f (take i (phonesOf l)) ++ cond t (idBytes (getD (l .ids) i noId) ∷ []) []
   next = rw (take-more l i h, kept-snoc, e)
 
-  pub keep-more : (q : PhoneId) → out .count < 32 → q ≡ idOf (idBytes (getD (l .ids) i noId)) → t ≡ true
+  pub keep-more : (q : ShortId) → out .count < 32 → q ≡ idOf (idBytes (getD (l .ids) i noId)) → t ≡ true
       → _≡_ {A = PhoneList} (record { ids = set (out .ids) (out .count) q; count = out .count + 1 }) (listOf (kept f (take (i + 1) (phonesOf l))))
   keep-more q r g w = stored out q (kept f (take i (phonesOf l))) _ (out .count) inv g (made-count out _ inv) r ∙ rw (next, w)
 

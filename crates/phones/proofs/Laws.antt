@@ -9,7 +9,7 @@ use lib.ListN.{length, take, getD, replicate, length-map, length-take, List·get
 use lib.Seq.{getD-take}
 use Rattle.arrays.specs.Arrays.{padded, put}
 use Rattle.arrays.proofs.Laws.{padded-take, put-padded}
-use Rattle.phones.specs.declared.PhoneId.{PhoneId}
+use Rattle.phones.specs.declared.ShortId.{ShortId}
 use Rattle.phones.specs.declared.PhoneList.{PhoneList}
 use Rattle.phones.specs.Phones.{idBytes, idOf, phonesOf, listOf, appended}
 
@@ -37,21 +37,21 @@ take-min (suc n) [] = rw min-zero
 take-min (suc n) (x ∷ xs) = rw (suc-min-suc, take-min n xs)
 
 -- a length above 32 counts as 32
-pub bytes-used : (p : PhoneId) (n : ℕ) → length (p .bytes) ≡ 32 → n ≡ min (p .len) 32 → take n (p .bytes) ≡ idBytes p
+pub bytes-used : (p : ShortId) (n : ℕ) → length (p .bytes) ≡ 32 → n ≡ min (p .len) 32 → take n (p .bytes) ≡ idBytes p
 unfolding idBytes
 bytes-used p n h e = rw (e, ← h, take-min (p .len) (p .bytes))
 
-pub used-length : (p : PhoneId) → length (p .bytes) ≡ 32 → length (idBytes p) ≡ min (p .len) 32
+pub used-length : (p : ShortId) → length (p .bytes) ≡ 32 → length (idBytes p) ≡ min (p .len) 32
 unfolding idBytes
 used-length p h = rw (length-take, h)
 
 -- zeros with a string written in front
-pub id-made : (b : List ℕ) (n : ℕ) (s : List ℕ) → b ≡ put (replicate 32 0) 0 s → n ≡ length s → _≡_ {A = PhoneId} (record { bytes = b; len = n }) (idOf s)
+pub id-made : (b : List ℕ) (n : ℕ) (s : List ℕ) → b ≡ put (replicate 32 0) 0 s → n ≡ length s → _≡_ {A = ShortId} (record { bytes = b; len = n }) (idOf s)
 unfolding idOf padded
 id-made b n s e f = rw (e, f, put-padded 32 0 [] s)
 
 -- what a read past the end of an array of ids is
-abbrev pub noId : PhoneId
+abbrev pub noId : ShortId
 noId = record { bytes = []; len = 0 }
 
 pub phones-length : (l : PhoneList) → length (l .ids) ≡ 32 → length (phonesOf l) ≡ min (l .count) 32

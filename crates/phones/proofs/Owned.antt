@@ -11,15 +11,15 @@ use borrow.Author.Needs.{length-unmapped}
 use mir.Val.{Val}
 use denote.Array.{each}
 use denote.Shadow.{shadow}
-use Rattle.phones.specs.declared.PhoneId.{PhoneId}
+use Rattle.phones.specs.declared.ShortId.{ShortId}
 use Rattle.phones.specs.declared.PhoneList.{PhoneList}
 use Rattle.phones.specs.Phones.{idBytes, phonesOf}
-use Rattle.phones.proofs.PhoneId.{the-field}
+use Rattle.phones.proofs.ShortId.{the-field}
 use Rattle.phones.proofs.Laws.{noId, phones-at, phones-length}
 use Rattle.phones.proofs.Range.{Short}
 
 -- each id's bytes are 32
-each-long : (ids : List PhoneId) (us : List Val) (i : ℕ) → shadow (each (the-field .row .Denot) (the-field .row .own) (map (the-field .into) ids) us) → length (getD ids i noId .bytes) ≤ 32
+each-long : (ids : List ShortId) (us : List Val) (i : ℕ) → shadow (each (the-field .row .Denot) (the-field .row .own) (map (the-field .into) ids) us) → length (getD ids i noId .bytes) ≤ 32
 each-long [] us i p = omega arith
 each-long (x ∷ xs) [] i p = absurd p
 each-long (x ∷ xs) (u ∷ us) zero p = let e : length (x .bytes) ≡ 32 = length-unmapped ℕ (x .bytes) 32 (p .0 .1 .1 .0 .1 .0 .1) in omega arith

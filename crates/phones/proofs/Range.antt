@@ -9,7 +9,7 @@ use lib.Dec.{ltb}
 use lib.ListN.{length, take, getD, length-append, length-map, length-take}
 use Rattle.arrays.specs.Arrays.{sameBytes}
 use Rattle.arrays.proofs.Laws.{padded-take}
-use Rattle.phones.specs.declared.PhoneId.{PhoneId}
+use Rattle.phones.specs.declared.ShortId.{ShortId}
 use Rattle.phones.specs.declared.PhoneList.{PhoneList}
 use Rattle.phones.specs.Phones.{idBytes, idOf, tooLong, idInRange, someOf, kept, phonesOf, listOf, removeFirst, removeAll, retainIn, appended, allInRange, listInRange}
 use Rattle.phones.proofs.Counts.{kept-length, first-length}
@@ -76,7 +76,7 @@ pub range-count : (l : PhoneList) → listInRange l ≡ true → length (phonesO
 unfolding phonesOf
 range-count l h = let k = range-parts l h .0 in rw (length-map, length-take) (omega arith)
 
-bytes-short : (xs : List PhoneId) → someOf tooLong xs ≡ false → Short (map idBytes xs)
+bytes-short : (xs : List ShortId) → someOf tooLong xs ≡ false → Short (map idBytes xs)
 unfolding someOf tooLong idBytes
 bytes-short [] h = λ i. omega arith
 bytes-short (x ∷ xs) h = go (ltb 32 (x .len)) refl h (λ k. bytes-short xs k)

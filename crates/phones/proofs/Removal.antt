@@ -7,7 +7,7 @@ use Prim.Native.Nat.{ℕ, _+_, _<_}
 use lib.ListN.{length, take, getD, set}
 use Rattle.arrays.specs.Arrays.{sameBytes}
 use Rattle.arrays.proofs.Laws.{cond-same}
-use Rattle.phones.specs.declared.PhoneId.{PhoneId}
+use Rattle.phones.specs.declared.ShortId.{ShortId}
 use Rattle.phones.specs.declared.PhoneList.{PhoneList}
 use Rattle.phones.specs.Phones.{idBytes, idOf, listOf, phonesOf, someOf, kept, contains, removeFirst, removeAll}
 use Rattle.phones.proofs.Laws.{noId}
@@ -86,7 +86,7 @@ module _
   seen : over once s (take (i + 1) (phonesOf l)) ≡ cond once (cond done true (sameBytes (idBytes (getD (l .ids) i noId)) s)) false
   seen = rw (take-more l i h, over-snoc once s (take i (phonesOf l)) (idBytes (getD (l .ids) i noId)), was)
 
-  pub stays : (q : PhoneId) → out .count < 32 → q ≡ idOf (idBytes (getD (l .ids) i noId)) → t ≡ false
+  pub stays : (q : ShortId) → out .count < 32 → q ≡ idOf (idBytes (getD (l .ids) i noId)) → t ≡ false
       → _≡_ {A = PhoneList} (record { ids = set (out .ids) (out .count) q; count = out .count + 1 }) (listOf (left once s (take (i + 1) (phonesOf l))))
   stays q r g w = stored out q (left once s (take i (phonesOf l))) _ (out .count) inv g (made-count out _ inv) r ∙ rw (next, w)
 

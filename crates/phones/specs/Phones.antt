@@ -7,28 +7,28 @@ use Prim.Native.Nat.{ℕ}
 use lib.Dec.{ltb}
 use lib.ListN.{length, take}
 use Rattle.arrays.specs.Arrays.{padded, sameBytes}
-use Rattle.phones.specs.declared.PhoneId.{PhoneId}
+use Rattle.phones.specs.declared.ShortId.{ShortId}
 use Rattle.phones.specs.declared.PhoneList.{PhoneList}
 use Rattle.phones.specs.declared.MadeId.{MadeId}
 
 -- ---- ids
 
 -- the bytes in use
-unfoldable pub idBytes : PhoneId → List ℕ
+unfoldable pub idBytes : ShortId → List ℕ
 idBytes p = take (p .len) (p .bytes)
 
 -- a byte string as an id: zeros past its length
-unfoldable pub idOf : List ℕ → PhoneId
+unfoldable pub idOf : List ℕ → ShortId
 idOf s = record { bytes = padded 32 0 s; len = length s }
 
 -- a byte string above 32 bytes is no id (01: 18 IdTooLong)
 unfoldable pub madeId : List ℕ → MadeId
 madeId s = cond (ltb 32 (length s)) (record { ok = false; id = idOf [] }) (record { ok = true; id = idOf s })
 
-unfoldable pub tooLong : PhoneId → Bool
+unfoldable pub tooLong : ShortId → Bool
 tooLong p = ltb 32 (p .len)
 
-unfoldable pub idInRange : PhoneId → Bool
+unfoldable pub idInRange : ShortId → Bool
 idInRange p = not (tooLong p)
 
 -- ---- lists of anything
@@ -78,7 +78,7 @@ retainIn os ps = kept (λ (p : List ℕ). contains p os) ps
 unfoldable pub appended : PhoneList → List ℕ → PhoneList
 appended l s = cond (ltb (length (phonesOf l)) 32) (listOf (phonesOf l ++ (s ∷ []))) l
 
-unfoldable pub allInRange : List PhoneId → Bool
+unfoldable pub allInRange : List ShortId → Bool
 allInRange ps = not (someOf tooLong ps)
 
 -- the count, and the length of each id in use (01: 25 BadSettings)

@@ -10,20 +10,21 @@ ghost use Rattle.arrays.specs.Arrays.{sameBytes};
 ghost use Rattle.phones.specs.Phones.{idBytes, idOf, madeId, idInRange, phonesOf, listOf, anyIn, removeFirst, removeAll, retainIn, appended, listInRange};
 ghost use Rattle.phones.specs.Phones as Phones;
 
-pub struct PhoneId {
+// An id of at most 32 bytes: a phone's, or a method's.
+pub struct ShortId {
     pub bytes: [u8; 32],
     pub len: usize,
 }
 
 pub struct PhoneList {
-    pub ids: [PhoneId; 32],
+    pub ids: [ShortId; 32],
     pub count: usize,
 }
 
 // An id, or none (and the empty id) where the byte string was too long.
 pub struct MadeId {
     pub ok: bool,
-    pub id: PhoneId,
+    pub id: ShortId,
 }
 
 // A length or a count, at most 32.
@@ -34,7 +35,7 @@ fn clamp(n: usize) -> usize
 }
 
 // Whether an id is the byte string `s`, of any length.
-pub fn id_is(p: PhoneId, s: &[u8]) -> bool
+pub fn id_is(p: ShortId, s: &[u8]) -> bool
     ensures { λ r. ⌜ r ≡ sameBytes (idBytes p) (now (s .entry)) ⌝ }
 {
     let bytes = p.bytes;
@@ -43,7 +44,7 @@ pub fn id_is(p: PhoneId, s: &[u8]) -> bool
 }
 
 // Whether two ids are the same byte string.
-pub fn same_as(p: PhoneId, q: PhoneId) -> bool
+pub fn same_as(p: ShortId, q: ShortId) -> bool
     ensures { λ r. ⌜ r ≡ sameBytes (idBytes p) (idBytes q) ⌝ }
 {
     let bytes = q.bytes;
@@ -58,27 +59,27 @@ pub fn make_id(s: &[u8]) -> MadeId
     let mut bytes = [0u8; 32];
     let n = s.len();
     if 32 < n {
-        let id = PhoneId { bytes, len: 0 };
+        let id = ShortId { bytes, len: 0 };
         return MadeId { ok: false, id };
     }
     arrays::put(&mut bytes, 0, s);
-    let id = PhoneId { bytes, len: n };
+    let id = ShortId { bytes, len: n };
     MadeId { ok: true, id }
 }
 
 // The same id with zeros past its length.
-fn clean(p: PhoneId) -> PhoneId
+pub fn clean(p: ShortId) -> ShortId
     ensures { λ r. ⌜ r ≡ idOf (idBytes p) ⌝ }
 {
     let old = p.bytes;
     let n = clamp(p.len);
     let mut bytes = [0u8; 32];
     arrays::put(&mut bytes, 0, &old[..n]);
-    PhoneId { bytes, len: n }
+    ShortId { bytes, len: n }
 }
 
 // Whether the length is at most 32.
-pub fn id_in_range(p: PhoneId) -> bool
+pub fn id_in_range(p: ShortId) -> bool
     ensures { λ r. ⌜ r ≡ idInRange p ⌝ }
 {
     if 32 < p.len { false } else { true }
@@ -88,7 +89,7 @@ pub fn empty_list() -> PhoneList
     ensures { λ r. ⌜ r ≡ listOf [] ⌝ }
 {
     let bytes = [0u8; 32];
-    let none = PhoneId { bytes, len: 0 };
+    let none = ShortId { bytes, len: 0 };
     let ids = [none; 32];
     PhoneList { ids, count: 0 }
 }
@@ -100,7 +101,7 @@ pub fn count(l: PhoneList) -> usize
 }
 
 // The id at place `i`, empty past the last one.
-pub fn phone_at(l: PhoneList, i: usize) -> PhoneId
+pub fn phone_at(l: PhoneList, i: usize) -> ShortId
     ensures { λ r. ⌜ r ≡ idOf (getD (phonesOf l) i []) ⌝ }
 {
     let n = clamp(l.count);
@@ -109,7 +110,7 @@ pub fn phone_at(l: PhoneList, i: usize) -> PhoneId
         return clean(p);
     }
     let bytes = [0u8; 32];
-    PhoneId { bytes, len: 0 }
+    ShortId { bytes, len: 0 }
 }
 
 // Whether the byte string `s` is in the list.
@@ -129,7 +130,7 @@ pub fn contains(l: PhoneList, s: &[u8]) -> bool
 }
 
 // Whether an id is in the list.
-pub fn contains_id(l: PhoneList, p: PhoneId) -> bool
+pub fn contains_id(l: PhoneList, p: ShortId) -> bool
     ensures { λ r. ⌜ r ≡ Phones.contains (idBytes p) (phonesOf l) ⌝ }
 {
     let bytes = p.bytes;
@@ -154,7 +155,7 @@ pub fn any_in(l: PhoneList, other: PhoneList) -> bool
 }
 
 // Whether an id goes: it is `s`, and not all that should go are gone.
-fn goes(done: bool, p: PhoneId, s: &[u8]) -> bool
+fn goes(done: bool, p: ShortId, s: &[u8]) -> bool
     ensures { λ r. ⌜ r ≡ cond done false (sameBytes (idBytes p) (now (s .entry))) ⌝ }
 {
     if done {
@@ -239,7 +240,7 @@ pub fn canonical(l: PhoneList) -> PhoneList
 }
 
 // The list with one id more; a full list stays as it is.
-pub fn append(l: PhoneList, p: PhoneId) -> PhoneList
+pub fn append(l: PhoneList, p: ShortId) -> PhoneList
     ensures { λ r. ⌜ r ≡ appended l (idBytes p) ⌝ }
 {
     let k = clamp(l.count);

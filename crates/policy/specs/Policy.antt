@@ -43,7 +43,7 @@ allowsReadWrite p = fingerprintConfirmed (p .identity) && approvedCar (p .identi
 
 -- is_can_read_only: the vehicle's flag, logging, the platform unconfirmed, or read-write not allowed
 unfoldable pub isReadOnly : Policy → Bool
-isReadOnly p = p .buses .locked || p .buses .logging || not (p .identity .confirmed) || not (allowsReadWrite p)
+isReadOnly p = p .buses .«vehicle_read_only» || p .buses .logging || not (p .identity .confirmed) || not (allowsReadWrite p)
 
 -- is_can_fd_bus: never for a bus above 3
 unfoldable pub isFdBus : Buses → ℕ → Bool

@@ -91,7 +91,7 @@ pub fn is_can_read_only(p: Policy) -> bool
     ensures { λ r. ⌜ r ≡ isReadOnly p ⌝ }
 {
     let buses = p.buses;
-    if buses.locked {
+    if buses.vehicle_read_only {
         return true;
     }
     if buses.logging {

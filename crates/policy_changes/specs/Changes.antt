@@ -29,11 +29,11 @@ withBuses p b = record { identity = p .identity; access = p .access; buses = b }
 abbrev pub identityOf : Identity → Bool → Car → Identity
 identityOf i confirmed car = record { platform = i .platform; confirmed = confirmed; car = car }
 
-abbrev pub accessOf : Access → Car → Access
-accessOf a approval = record { approval = approval; unlocked = a .unlocked; production = a .production }
+abbrev pub withApproval : Access → Car → Access
+withApproval a approval = record { approval = approval; unlocked = a .unlocked; production = a .production }
 
-abbrev pub lockedAs : Buses → Bool → Buses
-lockedAs b locked = record { locked = locked; logging = b .logging; fd = b .fd }
+abbrev pub withVehicleReadOnly : Buses → Bool → Buses
+withVehicleReadOnly b flag = record { «vehicle_read_only» = flag; logging = b .logging; fd = b .fd }
 
 -- ---- answers and signals
 
@@ -42,8 +42,8 @@ yesNo true = Yes
 yesNo false = No
 
 -- notify_can_read_only_changed after a change of the policy
-unfoldable pub changed : Core → Answer → Policy → Said
-changed c a p = reply (withPolicy c p) a (readOnlyChanged (isReadOnly p))
+unfoldable pub policyChanged : Core → Answer → Policy → Said
+policyChanged c a p = reply (withPolicy c p) a (readOnlyChanged (isReadOnly p))
 
 -- ---- the relock count
 

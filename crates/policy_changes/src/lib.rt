@@ -42,8 +42,8 @@ pub fn with_buses(p: Policy, buses: Buses) -> Policy
 }
 
 // The core with another policy, and the read-only signals.
-pub fn changed(core: Core, answer: Answer, policy: Policy) -> Said
-    ensures { λ r. ⌜ r ≡ Changes.changed core answer policy ⌝ }
+pub fn policy_changed(core: Core, answer: Answer, policy: Policy) -> Said
+    ensures { λ r. ⌜ r ≡ Changes.policyChanged core answer policy ⌝ }
 {
     let value = policy::is_can_read_only(policy);
     let signals = state::replies::read_only_changed(value);

@@ -9,7 +9,7 @@ use lib.ListN.{length, take, drop, getD, length-take, drop-of-length-le}
 use lib.Seq.{drop-cons, getD-take}
 use Rattle.frames.specs.declared.CanFrame.{CanFrame}
 use Rattle.frames.specs.declared.ProbeFrame.{ProbeFrame}
-use Rattle.frames.specs.Frames.{idInRange, isEntry}
+use Rattle.frames.specs.Frames.{canIdInRange, isEntry}
 use Rattle.probe_window.specs.declared.Unsent.the-variants.{At, Nothing}
 use Rattle.probe_window.specs.Window.{idsInRange, firstUnsent}
 
@@ -20,16 +20,16 @@ wraps-back m mark r h k e = omega arith
 -- ---- the ids: what is left to test is what stands from i on
 
 module _ (fs : List ProbeFrame) (n : ℕ) (d : ProbeFrame) (i : ℕ) (far : length fs ≡ 4) (h : i < 4) (k : i < n) (inv : idsInRange (take n fs) ≡ idsInRange (drop i (take n fs))) where
-  ids-step : idsInRange (take n fs) ≡ cond (idInRange (getD fs i d .id)) (idsInRange (drop (i + 1) (take n fs))) false
+  ids-step : idsInRange (take n fs) ≡ cond (canIdInRange (getD fs i d .id)) (idsInRange (drop (i + 1) (take n fs))) false
   unfolding idsInRange
   ids-step =
       let inside : i < length (take n fs) = rw (length-take, far) (omega arith) in
       inv ∙ rw (add-one, drop-cons (take n fs) i d inside, getD-take n fs i d k)
 
-  pub ids-again : idInRange (getD fs i d .id) ≡ true → idsInRange (take n fs) ≡ idsInRange (drop (i + 1) (take n fs))
+  pub ids-again : canIdInRange (getD fs i d .id) ≡ true → idsInRange (take n fs) ≡ idsInRange (drop (i + 1) (take n fs))
   ids-again e = ids-step ∙ rw e
 
-  pub ids-failed : idInRange (getD fs i d .id) ≡ false → false ≡ idsInRange (take n fs)
+  pub ids-failed : canIdInRange (getD fs i d .id) ≡ false → false ≡ idsInRange (take n fs)
   ids-failed e = sym (ids-step ∙ rw e)
 
 pub ids-end : (xs : List ProbeFrame) (i : ℕ) → length xs ≤ i → idsInRange xs ≡ idsInRange (drop i xs) → true ≡ idsInRange xs

@@ -9,7 +9,7 @@ use Rattle.frames.specs.declared.Id.{Id}
 use Rattle.frames.specs.declared.Id.the-variants.{Standard, Extended}
 use Rattle.frames.specs.declared.CanFrame.{CanFrame}
 use Rattle.frames.specs.declared.ProbeFrame.{ProbeFrame}
-use Rattle.frames.specs.Frames.{idInRange, isEntry, busExists}
+use Rattle.frames.specs.Frames.{canIdInRange, isEntry, busExists}
 use Rattle.state.specs.declared.Identity.{Identity}
 use Rattle.state.specs.declared.Policy.{Policy}
 use Rattle.state.specs.declared.Probe.{Probe}
@@ -61,13 +61,13 @@ isListenOnly p b bus clock = isBusReadOnly p bus && not (isOpen p b bus clock)
 
 -- ---- the frames of a probe
 
--- what a read past four frames is
+-- an empty place of a window; also what a read past four frames is
 abbrev pub noFrame : ProbeFrame
 noFrame = record { id = Standard 0; «data» = replicate 8 0 }
 
 unfoldable pub idsInRange : List ProbeFrame → Bool
 idsInRange [] = true
-idsInRange (f ∷ fs) = cond (idInRange (f .id)) (idsInRange fs) false
+idsInRange (f ∷ fs) = cond (canIdInRange (f .id)) (idsInRange fs) false
 
 -- the place of the first entry that is the frame and was not sent, counted from i
 unfoldable pub firstUnsent : CanFrame → ℕ → List ProbeFrame → List Bool → Unsent

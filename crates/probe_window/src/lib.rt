@@ -140,7 +140,7 @@ pub fn ids_in_range(frames: [ProbeFrame; 4], count: usize) -> bool
         }
         let f = frames[i];
         let id = f.id;
-        if frames::id_in_range(id) {
+        if frames::can_id_in_range(id) {
             i += 1;
         } else {
             return false;

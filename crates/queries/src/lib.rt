@@ -22,8 +22,8 @@ ghost use Rattle.answers.specs.Query.{isCanReadOnly, canReadOnlyReason, isCarId
 ghost use Rattle.definition.specs.Gate.{ask, asked, step};
 
 // Yes or no, or 25.
-fn told(core: Core, b: bool) -> Answer
-    ensures { λ r. ⌜ r ≡ Answers.told core (yesNo b) ⌝ }
+fn answer_yes_no(core: Core, b: bool) -> Answer
+    ensures { λ r. ⌜ r ≡ Answers.ifInRange core (yesNo b) ⌝ }
 {
     if range::in_range(core) {
         return policy_changes::yes_no(b);
@@ -38,7 +38,7 @@ pub fn is_can_read_only(g: Gate) -> Answer
 {
     let core = g.core;
     let policy = core.policy;
-    told(core, policy::is_can_read_only(policy))
+    answer_yes_no(core, policy::is_can_read_only(policy))
 }
 
 // 1 to 7, or 0 for none.
@@ -57,7 +57,7 @@ pub fn is_car_identity_confirmed(g: Gate) -> Answer
     ensures { λ r. ⌜ asked g (plain r) ≡ step g (ask isCarIdentityConfirmed) ⌝ }
 {
     let core = g.core;
-    told(core, core.policy.identity.confirmed)
+    answer_yes_no(core, core.policy.identity.confirmed)
 }
 
 pub fn is_car_fingerprint_confirmed(g: Gate) -> Answer
@@ -65,7 +65,7 @@ pub fn is_car_fingerprint_confirmed(g: Gate) -> Answer
 {
     let core = g.core;
     let identity = core.policy.identity;
-    told(core, policy::is_car_fingerprint_confirmed(identity))
+    answer_yes_no(core, policy::is_car_fingerprint_confirmed(identity))
 }
 
 pub fn can_read_write_approval(g: Gate) -> ApprovalAnswer
@@ -92,7 +92,7 @@ pub fn has_can_dev_write_lock(g: Gate) -> Answer
 {
     let core = g.core;
     let access = core.policy.access;
-    told(core, policy::has_can_dev_write_lock(access))
+    answer_yes_no(core, policy::has_can_dev_write_lock(access))
 }
 
 pub fn is_can_dev_write_unlocked(g: Gate) -> Answer
@@ -100,7 +100,7 @@ pub fn is_can_dev_write_unlocked(g: Gate) -> Answer
 {
     let core = g.core;
     let access = core.policy.access;
-    told(core, policy::is_can_dev_write_unlocked(access))
+    answer_yes_no(core, policy::is_can_dev_write_unlocked(access))
 }
 
 pub fn can_access_state(g: Gate) -> AccessAnswer
@@ -128,7 +128,7 @@ pub fn is_can_logging(g: Gate) -> Answer
     ensures { λ r. ⌜ asked g (plain r) ≡ step g (ask isCanLogging) ⌝ }
 {
     let core = g.core;
-    told(core, core.policy.buses.logging)
+    answer_yes_no(core, core.policy.buses.logging)
 }
 
 pub fn is_can_fd_bus(g: Gate, bus: u8) -> Answer
@@ -136,7 +136,7 @@ pub fn is_can_fd_bus(g: Gate, bus: u8) -> Answer
 {
     let core = g.core;
     let buses = core.policy.buses;
-    told(core, policy::is_can_fd_bus(buses, bus))
+    answer_yes_no(core, policy::is_can_fd_bus(buses, bus))
 }
 
 pub fn is_can_bus_read_only(g: Gate, bus: u8) -> Answer
@@ -144,7 +144,7 @@ pub fn is_can_bus_read_only(g: Gate, bus: u8) -> Answer
 {
     let core = g.core;
     let policy = core.policy;
-    told(core, policy::is_can_bus_read_only(policy, bus))
+    answer_yes_no(core, policy::is_can_bus_read_only(policy, bus))
 }
 
 pub fn is_can_bus_listen_only(g: Gate, bus: u8, clock: u64) -> Answer
@@ -153,7 +153,7 @@ pub fn is_can_bus_listen_only(g: Gate, bus: u8, clock: u64) -> Answer
     let core = g.core;
     let policy = core.policy;
     let probe = core.probe;
-    told(
+    answer_yes_no(
         core,
         probe_window::is_can_bus_listen_only(policy, probe, bus, clock),
     )
@@ -165,7 +165,7 @@ pub fn is_phone_paired(g: Gate, id: &[u8]) -> Answer
     ensures { λ r. ⌜ asked g (plain r) ≡ step g (ask (isPhonePaired (now (id .entry)))) ⌝ }
 {
     let core = g.core;
-    told(core, phone_trust::is_paired(core, id))
+    answer_yes_no(core, phone_trust::is_paired(core, id))
 }
 
 pub fn paired_phone_count(g: Gate) -> Answer
@@ -212,14 +212,14 @@ pub fn is_phone_validated(g: Gate, id: &[u8]) -> Answer
     ensures { λ r. ⌜ asked g (plain r) ≡ step g (ask (isPhoneValidated (now (id .entry)))) ⌝ }
 {
     let core = g.core;
-    told(core, phone_trust::is_phone_validated(core, id))
+    answer_yes_no(core, phone_trust::is_phone_validated(core, id))
 }
 
 pub fn car_has_validated_phone(g: Gate) -> Answer
     ensures { λ r. ⌜ asked g (plain r) ≡ step g (ask carHasValidatedPhone) ⌝ }
 {
     let core = g.core;
-    told(core, phone_trust::car_has_validated_phone(core))
+    answer_yes_no(core, phone_trust::car_has_validated_phone(core))
 }
 
 pub fn phone_trust_level(g: Gate, id: &[u8]) -> TrustAnswer

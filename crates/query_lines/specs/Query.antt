@@ -90,7 +90,7 @@ shown Missing p = text (ascii " session=none") p
 shown (Shown r) p = reply r p
 
 unfoldable pub phoneAccess : PhoneAccessAnswer → Page → Page
-phoneAccess a p = cond (isDone (a .answer)) (p ▸ answer (a .answer) ▸ text (trustName (a .trust)) ▸ flag (ascii " car_has_validated=") (a .validated) ▸ shown (seen (a .session))) (p ▸ answer (a .answer))
+phoneAccess a p = cond (isDone (a .answer)) (p ▸ answer (a .answer) ▸ text (trustName (a .trust)) ▸ flag (ascii " car_has_validated=") (a .«car_has_validated») ▸ shown (seen (a .session))) (p ▸ answer (a .answer))
 
 -- ID/KIND/APPROVAL/AVAILABLE of the method at a place, if there is one
 unfoldable pub methodAt : MethodsAnswer → ℕ → Page → Page

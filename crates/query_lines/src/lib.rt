@@ -171,7 +171,7 @@ pub fn put_phone_access(out: &mut [u8], at: usize, a: PhoneAccessAnswer) -> usiz
     if is_done(told) {
         let what = a.trust;
         let k = put_trust_name(out, k, what);
-        let k = lines::put_flag(out, k, b" car_has_validated=", a.validated);
+        let k = lines::put_flag(out, k, b" car_has_validated=", a.car_has_validated);
         let session = a.session;
         let s = seen_in(session);
         return put_seen(out, k, s);

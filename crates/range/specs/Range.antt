@@ -48,8 +48,11 @@ unfoldable pub allFit : List Method → Bool
 allFit ms = allOf methodFits ms
 
 -- 01, New gate: at most 8 methods; those past the count are not looked at
+unfoldable pub methodsIn : List Method → ℕ → Bool
+methodsIn list count = cond (ltb 8 count) false (allFit (take count list))
+
 unfoldable pub methodsFit : Methods → Bool
-methodsFit m = cond (ltb 8 (m .count)) false (allFit (take (m .count) (m .list)))
+methodsFit m = methodsIn (m .list) (m .count)
 
 -- 01, New gate: while a CodeEntry session is InProgress, its tries left are from 1 to the set number
 unfoldable pub triesFit : Settings → Methods → Session → Bool

@@ -7,7 +7,7 @@ use state::Settings;
 use state::Window;
 ghost use mathlib.Core.Path.{_≡_};
 ghost use Rattle.range.specs.Range as Range;
-ghost use Rattle.range.specs.Range.{settingsFit, methodFits, methodsFit, triesFit, sessionFits, windowFits, phonesFit, inRange};
+ghost use Rattle.range.specs.Range.{settingsFit, methodFits, methodsIn, methodsFit, triesFit, sessionFits, windowFits, phonesFit, inRange};
 
 pub fn within(low: u64, high: u64, x: u64) -> bool
     ensures { λ r. ⌜ r ≡ Range.within low high x ⌝ }
@@ -71,11 +71,9 @@ fn method_fits(m: Method) -> bool
     printable(&bytes[..n])
 }
 
-pub fn methods_fit(m: Methods) -> bool
-    ensures { λ r. ⌜ r ≡ methodsFit m ⌝ }
+pub fn methods_in(list: [Method; 8], n: usize) -> bool
+    ensures { λ r. ⌜ r ≡ methodsIn list n ⌝ }
 {
-    let list = m.list;
-    let n = m.count;
     if 8 < n {
         return false;
     }
@@ -89,6 +87,13 @@ pub fn methods_fit(m: Methods) -> bool
         }
     }
     true
+}
+
+pub fn methods_fit(m: Methods) -> bool
+    ensures { λ r. ⌜ r ≡ methodsFit m ⌝ }
+{
+    let list = m.list;
+    methods_in(list, m.count)
 }
 
 fn tries_fit(settings: Settings, m: Methods, s: Session) -> bool

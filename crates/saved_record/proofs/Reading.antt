@@ -16,7 +16,7 @@ use Rattle.phones.specs.declared.MadeId.{MadeId}
 use Rattle.phones.specs.Phones.{idOf, madeId, listOf}
 use Rattle.phones.proofs.Build.{stored}
 use Rattle.saved_record.specs.declared.Decoded.{Decoded}
-use Rattle.saved_record.specs.declared.RecordAnswer.the-variants.{Restored, Malformed}
+use Rattle.saved_record.specs.declared.RecordVerdict.the-variants.{Restored, Malformed}
 use Rattle.saved_record.specs.SavedRecord.{malformed, before, readPhones, readCounted, anyLong, overLimits, judged, decodedBody, decoded, refusal, restored}
 use Rattle.saved_record.specs.Steps.{firstLength, onlyChecked}
 use Rattle.saved_record.proofs.RoundTrip.{ReadPhones, refused, are, read-phones}

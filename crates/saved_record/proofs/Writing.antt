@@ -8,7 +8,7 @@ use lib.ListN.{length, take, drop, getD, set, replicate, take-append-drop, lengt
 use lib.Seq.{append-snoc, take-all, take-suc, take-suc-set, drop-drop, drop-set-lt}
 use Rattle.arrays.specs.Arrays.{padded, put}
 use Rattle.arrays.proofs.Laws.{padded-push, put-take, put-drop, put-length, put-padded}
-use Rattle.phones.specs.declared.PhoneId.{PhoneId}
+use Rattle.phones.specs.declared.ShortId.{ShortId}
 use Rattle.phones.specs.Phones.{idBytes}
 use Rattle.phones.proofs.Laws.{bytes-used, used-length}
 use Rattle.saved_record.specs.declared.SavedRecord.{SavedRecord}
@@ -22,7 +22,7 @@ put-field d at v s h =
     rw (e, drop-set-lt (at + suc (length s)) d at v (omega arith), add-one, take-suc-set d at v h, append-assoc (take at d) (v ∷ []) s)
 
 -- an id of which n bytes are in use
-module _ (p : PhoneId) (n : ℕ) (long : length (p .bytes) ≡ 32) (e : n ≡ min (p .len) 32) where
+module _ (p : ShortId) (n : ℕ) (long : length (p .bytes) ≡ 32) (e : n ≡ min (p .len) 32) where
   id-length : length (idBytes p) ≡ n
   id-length = used-length p long ∙ sym e
 

@@ -9,8 +9,8 @@ use lib.ListN.{length, take, drop, replicate}
 use Rattle.arrays.specs.Arrays.{padded}
 use Rattle.phones.specs.Phones.{listOf}
 use Rattle.saved_record.specs.declared.SavedRecord.{SavedRecord}
-use Rattle.saved_record.specs.declared.RecordAnswer.{RecordAnswer}
-use Rattle.saved_record.specs.declared.RecordAnswer.the-variants.{Restored, Malformed, TooLarge}
+use Rattle.saved_record.specs.declared.RecordVerdict.{RecordVerdict}
+use Rattle.saved_record.specs.declared.RecordVerdict.the-variants.{Restored, Malformed, TooLarge}
 use Rattle.saved_record.specs.declared.Decoded.{Decoded}
 
 -- ---- writing
@@ -87,13 +87,13 @@ decoded (version ∷ rest) = cond (eqb version 1) (decodedBody (take 32 rest) (d
 -- ---- what the answer holds
 
 -- the port's numbers of the refusals, and 0 for none
-abbrev pub recordNumber : RecordAnswer → ℕ
+abbrev pub recordNumber : RecordVerdict → ℕ
 recordNumber Restored = 0
 recordNumber Malformed = 22
 recordNumber TooLarge = 23
 
 -- a refusal holds no car and no phones
-unfoldable pub refusal : RecordAnswer → Decoded
+unfoldable pub refusal : RecordVerdict → Decoded
 refusal answer = record { answer = answer; car = replicate 32 0; phones = listOf [] }
 
 unfoldable pub restored : Reading → Decoded

@@ -5,8 +5,8 @@ use mathlib.Core.Option.{Option, none, some}
 use Prim.Native.Nat.{ℕ}
 use lib.Dec.{ltb}
 use lib.ListN.{length}
-use Rattle.saved_record.specs.declared.RecordAnswer.{RecordAnswer}
-use Rattle.saved_record.specs.declared.RecordAnswer.the-variants.{Malformed, TooLarge}
+use Rattle.saved_record.specs.declared.RecordVerdict.{RecordVerdict}
+use Rattle.saved_record.specs.declared.RecordVerdict.the-variants.{Malformed, TooLarge}
 
 -- the length of the phone that what remains begins with; 0 if it is empty or not whole
 unfoldable pub firstLength : List ℕ → ℕ
@@ -14,6 +14,6 @@ firstLength [] = 0
 firstLength (n ∷ rest) = cond (ltb (length rest) n) 0 n
 
 -- the answer where a limit is passed already
-abbrev pub onlyChecked : Option (List (List ℕ)) → RecordAnswer
+abbrev pub onlyChecked : Option (List (List ℕ)) → RecordVerdict
 onlyChecked none = Malformed
 onlyChecked (some ps) = TooLarge

@@ -1,6 +1,6 @@
 // The saved record of the validated phones: written, and read back.
-use phones::PhoneId;
 use phones::PhoneList;
+use phones::ShortId;
 ghost use mathlib.Core.Path.{_≡_};
 ghost use Prim.Native.Nat.{_+_, _≤_, min};
 ghost use lib.ListN.{length};
@@ -15,7 +15,7 @@ pub struct SavedRecord {
     pub len: usize,
 }
 
-pub enum RecordAnswer {
+pub enum RecordVerdict {
     Restored,
     Malformed,
     TooLarge,
@@ -23,7 +23,7 @@ pub enum RecordAnswer {
 
 // What a record says. Where it is refused, the car is zeros and the list empty.
 pub struct Decoded {
-    pub answer: RecordAnswer,
+    pub answer: RecordVerdict,
     pub car: [u8; 32],
     pub phones: PhoneList,
 }
@@ -36,7 +36,7 @@ fn clamp(n: usize) -> usize
 }
 
 // Writes a phone at `at`, a length byte and its bytes, and tells the place after it.
-fn put_phone(out: &mut [u8], at: usize, p: PhoneId) -> usize
+fn put_phone(out: &mut [u8], at: usize, p: ShortId) -> usize
     requires { ⌜ at + 33 ≤ length (now out) ⌝ }
     ensures { λ r. ⌜ (r ≡ at + length (field (idBytes p))) × (now (out .exit) ≡ put (now (out .entry)) at (field (idBytes p))) ⌝ }
 {
@@ -70,7 +70,7 @@ pub fn encode_phone_validations(car: [u8; 32], phones: PhoneList) -> SavedRecord
 }
 
 // A refusal holds no car and no phones.
-fn refused(answer: RecordAnswer) -> Decoded
+fn refused(answer: RecordVerdict) -> Decoded
     ensures { λ r. ⌜ r ≡ refusal answer ⌝ }
 {
     let car = [0u8; 32];
@@ -97,7 +97,7 @@ fn first_length(rest: &[u8]) -> usize
 }
 
 // Reads on where the count or a phone is over its limit: the record may still be malformed.
-fn only_checked(count: usize, fields: &[u8]) -> RecordAnswer
+fn only_checked(count: usize, fields: &[u8]) -> RecordVerdict
     ensures { λ r. ⌜ r ≡ onlyChecked (readPhones count (now (fields .entry))) ⌝ }
 {
     let mut rest = fields;
@@ -105,15 +105,15 @@ fn only_checked(count: usize, fields: &[u8]) -> RecordAnswer
     while 0 < left {
         let n = first_length(rest);
         if n == 0 {
-            return RecordAnswer::Malformed;
+            return RecordVerdict::Malformed;
         }
         rest = &rest[1 + n..];
         left -= 1;
     }
     if rest.len() == 0 {
-        return RecordAnswer::TooLarge;
+        return RecordVerdict::TooLarge;
     }
-    RecordAnswer::Malformed
+    RecordVerdict::Malformed
 }
 
 // Reads the phones, each from what remains of the record after the one before it.
@@ -129,7 +129,7 @@ fn read_phones(car: [u8; 32], count: usize, fields: &[u8]) -> Decoded
     while 0 < left {
         let len = first_length(rest);
         if len == 0 {
-            return refused(RecordAnswer::Malformed);
+            return refused(RecordVerdict::Malformed);
         }
         if 32 < len {
             return refused(only_checked(left, rest));
@@ -144,10 +144,10 @@ fn read_phones(car: [u8; 32], count: usize, fields: &[u8]) -> Decoded
         left -= 1;
     }
     if 0 < rest.len() {
-        return refused(RecordAnswer::Malformed);
+        return refused(RecordVerdict::Malformed);
     }
     Decoded {
-        answer: RecordAnswer::Restored,
+        answer: RecordVerdict::Restored,
         car,
         phones,
     }
@@ -158,14 +158,14 @@ pub fn decode_phone_validations(bytes: &[u8]) -> Decoded
     ensures { λ r. ⌜ r ≡ restored (decoded (now (bytes .entry))) ⌝ }
 {
     if bytes.len() < 34 {
-        return refused(RecordAnswer::Malformed);
+        return refused(RecordVerdict::Malformed);
     }
     if bytes[0] != 1 {
-        return refused(RecordAnswer::Malformed);
+        return refused(RecordVerdict::Malformed);
     }
     let count = bytes[33] as usize;
     if count == 0 {
-        return refused(RecordAnswer::Malformed);
+        return refused(RecordVerdict::Malformed);
     }
     let mut car = [0u8; 32];
     arrays::put(&mut car, 0, &bytes[1..33]);

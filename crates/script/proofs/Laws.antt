@@ -13,7 +13,7 @@ use lib.Seq.{drop-cons, drop-drop, getD-drop, length-take-le, take-nil}
 use Rattle.arrays.specs.Arrays.{padded, put}
 use Rattle.arrays.proofs.Laws.{put-padded}
 use Rattle.phones.specs.Phones.{idOf}
-use Rattle.phones.specs.declared.PhoneId.{PhoneId}
+use Rattle.phones.specs.declared.ShortId.{ShortId}
 use Rattle.script.specs.Lists.{notThree, three, threeOf}
 use Rattle.script.specs.declared.Number.{Number}
 use Rattle.script.specs.declared.Number.the-variants.{Given, NoNumber}
@@ -281,7 +281,7 @@ put-all n s h =
     let e : n - length s ≡ 0 = omega arith in
     put-zeros n s ∙ (ap (λ (m : ℕ). s ++ replicate m 0) e ∙ append-nil s)
 
-pub id-made : (b s : List ℕ) (n : ℕ) → b ≡ put (replicate 32 0) 0 s → n ≡ length s → _≡_ {A = PhoneId} (record { bytes = b; len = n }) (idOf s)
+pub id-made : (b s : List ℕ) (n : ℕ) → b ≡ put (replicate 32 0) 0 s → n ≡ length s → _≡_ {A = ShortId} (record { bytes = b; len = n }) (idOf s)
 unfolding idOf
 id-made b s n e k = rw (e, k, put-zeros 32 s)
 

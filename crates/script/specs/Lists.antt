@@ -8,7 +8,7 @@ use lib.ListN.{length, take, set, replicate}
 use Rattle.arrays.specs.Arrays.{sameBytes}
 use Rattle.frames.specs.declared.Id.the-variants.{Standard}
 use Rattle.phones.specs.Phones.{idOf}
-use Rattle.phones.specs.declared.PhoneId.{PhoneId}
+use Rattle.phones.specs.declared.ShortId.{ShortId}
 use Rattle.state.specs.declared.Kind.{Kind}
 use Rattle.state.specs.declared.Kind.the-variants.{CodeEntry, InCarAction}
 use Rattle.ascii.specs.Ascii.{ascii}
@@ -66,14 +66,14 @@ unfoldable pub kindIn : List ℕ → KindItem
 kindIn s = cond (sameBytes s (ascii "code")) (Of CodeEntry) (cond (sameBytes s (ascii "action")) (Of InCarAction) NoKind)
 
 abbrev pub noMethod : MethodItem
-noMethod = record { ok = false; method = record { id = record { bytes = replicate 32 0; len = 0 }; kind = InCarAction; approval = false } }
+noMethod = record { ok = false; method = record { id = record { bytes = replicate 32 0; len = 0 }; kind = InCarAction; «needs_approval» = false } }
 
-abbrev pub withFlag : PhoneId → Kind → Flag → MethodItem
-withFlag id kind Yes = record { ok = true; method = record { id = id; kind = kind; approval = true } }
-withFlag id kind No = record { ok = true; method = record { id = id; kind = kind; approval = false } }
+abbrev pub withFlag : ShortId → Kind → Flag → MethodItem
+withFlag id kind Yes = record { ok = true; method = record { id = id; kind = kind; «needs_approval» = true } }
+withFlag id kind No = record { ok = true; method = record { id = id; kind = kind; «needs_approval» = false } }
 withFlag id kind NoFlag = noMethod
 
-abbrev pub withKind : PhoneId → KindItem → Flag → MethodItem
+abbrev pub withKind : ShortId → KindItem → Flag → MethodItem
 withKind id (Of kind) approval = withFlag id kind approval
 withKind id NoKind approval = noMethod
 

@@ -4,7 +4,7 @@ pub mod values;
 
 use frames::Id;
 use frames::ProbeFrame;
-use phones::PhoneId;
+use phones::ShortId;
 use state::Car;
 use state::Kind;
 use state::Method;
@@ -78,7 +78,7 @@ struct Slashes {
 
 struct IdItem {
     ok: bool,
-    id: PhoneId,
+    id: ShortId,
 }
 
 enum KindItem {

@@ -12,7 +12,7 @@ use crate::ProbeFrames;
 use crate::Slashes;
 use frames::Id;
 use frames::ProbeFrame;
-use phones::PhoneId;
+use phones::ShortId;
 use state::Kind;
 use state::Method;
 ghost use mathlib.Core.Path.{_≡_};
@@ -58,14 +58,14 @@ fn method_id(s: &[u8]) -> IdItem
     if crate::values::is_hex(s) {
         let n = s.len() / 2;
         if 32 < n {
-            let long = PhoneId { bytes, len: n };
+            let long = ShortId { bytes, len: n };
             return IdItem { ok: true, id: long };
         }
         crate::values::put_pairs(s, &mut bytes, 0);
-        let id = PhoneId { bytes, len: n };
+        let id = ShortId { bytes, len: n };
         return IdItem { ok: true, id };
     }
-    let none = PhoneId { bytes, len: 0 };
+    let none = ShortId { bytes, len: 0 };
     IdItem {
         ok: false,
         id: none,
@@ -88,16 +88,16 @@ fn no_method() -> MethodItem
     ensures { λ r. ⌜ r ≡ noMethod ⌝ }
 {
     let bytes = [0u8; 32];
-    let id = PhoneId { bytes, len: 0 };
+    let id = ShortId { bytes, len: 0 };
     let method = Method {
         id,
         kind: Kind::InCarAction,
-        approval: false,
+        needs_approval: false,
     };
     MethodItem { ok: false, method }
 }
 
-fn with_flag(id: PhoneId, kind: Kind, approval: Flag) -> MethodItem
+fn with_flag(id: ShortId, kind: Kind, approval: Flag) -> MethodItem
     ensures { λ r. ⌜ r ≡ withFlag id kind approval ⌝ }
 {
     match approval {
@@ -105,7 +105,7 @@ fn with_flag(id: PhoneId, kind: Kind, approval: Flag) -> MethodItem
             let method = Method {
                 id,
                 kind,
-                approval: true,
+                needs_approval: true,
             };
             MethodItem { ok: true, method }
         }
@@ -113,7 +113,7 @@ fn with_flag(id: PhoneId, kind: Kind, approval: Flag) -> MethodItem
             let method = Method {
                 id,
                 kind,
-                approval: false,
+                needs_approval: false,
             };
             MethodItem { ok: true, method }
         }

@@ -37,7 +37,7 @@ replyOf c s clock =
       length = cond (isCode kind) (c .settings .digits) 0;
       tries = cond (isCode kind) (s .tries) 0;
       seconds = secondsOf s clock;
-      cooldown = secondsTo (c .validation .cooldown) clock;
+      cooldown = secondsTo (c .validation .«cooldown_until») clock;
     }
 
 -- ---- the end of a session
@@ -76,7 +76,7 @@ isOf s phone = sameBytes (idBytes (s .phone)) phone
 
 -- the method needs approval and the gate is read-only
 unfoldable pub lostReadWrite : Core → Method → Bool
-lostReadWrite c m = m .approval && isReadOnly (c .policy)
+lostReadWrite c m = m .«needs_approval» && isReadOnly (c .policy)
 
 -- the host's notes of a place; the lists have eight
 unfoldable pub noteAt : List Bool → ℕ → Bool

@@ -39,7 +39,7 @@ pub fn reply_of(core: Core, s: Session, clock: u64) -> SessionReply
     let kind = method.kind;
     let status = s.status;
     let seconds = seconds_of(s, clock);
-    let cooldown = session_times::seconds_to(core.validation.cooldown, clock);
+    let cooldown = session_times::seconds_to(core.validation.cooldown_until, clock);
     if state::running::is_code(kind) {
         return SessionReply {
             method: at,
@@ -103,7 +103,7 @@ pub fn is_of(s: Session, phone: &[u8]) -> bool
 pub fn lost_read_write(core: Core, m: Method) -> bool
     ensures { λ r. ⌜ r ≡ lostReadWrite core m ⌝ }
 {
-    if m.approval {
+    if m.needs_approval {
         let policy = core.policy;
         return policy::is_can_read_only(policy);
     }

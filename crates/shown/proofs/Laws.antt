@@ -1,34 +1,26 @@
--- The bytes and the methods in use, and the steps of the loop over the methods.
+-- The methods in use, and the steps of the loop over the methods.
 use mathlib.Core.Path.{_≡_, refl, ap, sym, _∙_}
 use mathlib.Core.Bool.{Bool, false}
-use mathlib.Core.List.{List, [], _∷_, _++_}
+use mathlib.Core.List.{List, [], _∷_, _++_, map}
 use Prim.Native.Nat.{ℕ, suc, _+_, _-_, _≤_, _<_, min}
 use native.Mathlib.Nat.{add-zero, zero-add}
 use native.Mathlib.Numerals.{add-one}
 use native.Mathlib.Omega.{arith}
-use borrow.Author.Tests.{le-ltb}
 use lib.Dec.{ltb}
-use lib.ListN.{length, take, getD, set, length-take}
+use lib.ListN.{length, take, getD, set, length-take, length-map}
 use lib.Seq.{take-suc, take-all}
 use Rattle.arrays.specs.Arrays.{padded}
 use Rattle.arrays.proofs.Laws.{padded-push}
-use Rattle.phones.specs.declared.PhoneId.{PhoneId}
-use Rattle.phones.specs.declared.MadeId.{MadeId}
-use Rattle.phones.specs.Phones.{idBytes, idOf, madeId}
-use Rattle.phones.proofs.Laws.{bytes-used, used-length}
 use Rattle.state.specs.declared.Method.{Method}
 use Rattle.state.specs.declared.Core.{Core}
-use Rattle.state.specs.Running.{pastMethods}
+use Rattle.state.specs.Running.{cleanMethod, pastMethods}
 use Rattle.answers.specs.Answers.{canStart, canStartFrom}
 
--- ---- the bytes in use
+-- ---- the methods in use
 
--- the id that is made of the bytes in use
-pub id-clean : (p : PhoneId) (n : ℕ) (m : MadeId) → length (p .bytes) ≡ 32 → n ≡ min (p .len) 32 → m ≡ madeId (take n (p .bytes)) → m .id ≡ idOf (idBytes p)
-unfolding madeId
-id-clean p n m far e k =
-    let short : length (idBytes p) ≤ 32 = omega (arith, used-length p far) in
-    rw (k, bytes-used p n far e, le-ltb _ _ short)
+-- cleaning leaves their number
+pub used-count : (n : ℕ) (ms : List Method) → length (take n (map cleanMethod ms)) ≡ length (take n ms)
+used-count n ms = rw (length-take, length-map, length-take)
 
 -- ---- times
 

@@ -5,7 +5,7 @@ use answers::MethodsAnswer;
 use answers::PeerAnswer;
 use answers::PhoneAccessAnswer;
 use phone_trust::Trust;
-use phones::PhoneId;
+use phones::ShortId;
 use policy::Approval;
 use state::Answer;
 use state::Challenge;
@@ -23,10 +23,10 @@ ghost use Rattle.arrays.specs.Arrays.{padded};
 ghost use Rattle.phones.specs.Phones.{idBytes, idOf};
 ghost use Rattle.phone_trust.specs.Trust.{isValidated, trustOf};
 ghost use Rattle.state.specs.declared.Answer.the-variants.{BadSettings};
-ghost use Rattle.answers.specs.Answers.{accessOf, noAccessState, noPeer, peerOf, isShown, sessionShown, noAccess, phoneAccessOf, canStart, canStartFrom, methodsOf, methodsNow, shownDigits, challengeOf, noChallengeNow, challengeNow};
+ghost use Rattle.answers.specs.Answers.{accessStateOf, noAccessState, noPeer, peerOf, isShown, sessionShown, noAccess, phoneAccessOf, canStart, canStartFrom, methodsOf, methodsNow, shownDigits, challengeOf, noChallengeNow, challengeNow};
 
 pub fn access_of(policy: Policy) -> AccessAnswer
-    ensures { λ r. ⌜ r ≡ accessOf policy ⌝ }
+    ensures { λ r. ⌜ r ≡ accessStateOf policy ⌝ }
 {
     let identity = policy.identity;
     let access = policy.access;
@@ -58,7 +58,7 @@ pub fn no_access_state() -> AccessAnswer
         devlock: false,
         unlocked: false,
         logging: false,
-        readonly: false,
+        readonly: true,
     }
 }
 
@@ -66,7 +66,7 @@ pub fn no_peer(answer: Answer) -> PeerAnswer
     ensures { λ r. ⌜ r ≡ noPeer answer ⌝ }
 {
     let bytes = [0u8; 32];
-    let peer = PhoneId { bytes, len: 0 };
+    let peer = ShortId { bytes, len: 0 };
     PeerAnswer {
         answer,
         peer,
@@ -81,17 +81,7 @@ fn at_most(n: usize, most: usize) -> usize
     if n < most { n } else { most }
 }
 
-// The same id with zeros past its length.
-fn clean(p: PhoneId) -> PhoneId
-    ensures { λ r. ⌜ r ≡ idOf (idBytes p) ⌝ }
-{
-    let bytes = p.bytes;
-    let n = at_most(p.len, 32);
-    let made = phones::make_id(&bytes[..n]);
-    made.id
-}
-
-fn is_validated(p: PhoneId, core: Core) -> bool
+fn is_validated(p: ShortId, core: Core) -> bool
     ensures { λ r. ⌜ r ≡ isValidated core (idBytes p) ⌝ }
 {
     let bytes = p.bytes;
@@ -106,7 +96,7 @@ pub fn peer_of(core: Core) -> PeerAnswer
     if peer.len == 0 {
         return no_peer(Answer::Nothing);
     }
-    let id = clean(peer);
+    let id = phones::clean(peer);
     let valid = is_validated(peer, core);
     PeerAnswer {
         answer: Answer::Done,
@@ -159,12 +149,12 @@ pub fn no_access(answer: Answer) -> PhoneAccessAnswer
     PhoneAccessAnswer {
         answer,
         trust: Trust::NotBonded,
-        validated: false,
+        car_has_validated: false,
         session: Answer::Nothing,
     }
 }
 
-fn trust_in(p: PhoneId, core: Core) -> Trust
+fn trust_in(p: ShortId, core: Core) -> Trust
     ensures { λ r. ⌜ r ≡ trustOf core (idBytes p) ⌝ }
 {
     let bytes = p.bytes;
@@ -172,7 +162,7 @@ fn trust_in(p: PhoneId, core: Core) -> Trust
     phone_trust::phone_trust_level(core, &bytes[..n])
 }
 
-fn session_of(p: PhoneId, core: Core, clock: u64) -> Answer
+fn session_of(p: ShortId, core: Core, clock: u64) -> Answer
     ensures { λ r. ⌜ r ≡ sessionShown core (idBytes p) clock ⌝ }
 {
     let bytes = p.bytes;
@@ -188,12 +178,12 @@ pub fn phone_access_of(core: Core, clock: u64) -> PhoneAccessAnswer
         return no_access(Answer::Nothing);
     }
     let trust = trust_in(peer, core);
-    let validated = phone_trust::car_has_validated_phone(core);
+    let car_has_validated = phone_trust::car_has_validated_phone(core);
     let session = session_of(peer, core, clock);
     PhoneAccessAnswer {
         answer: Answer::Done,
         trust,
-        validated,
+        car_has_validated,
         session,
     }
 }

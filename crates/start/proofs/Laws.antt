@@ -3,10 +3,11 @@ use mathlib.Core.Path.{_≡_, refl}
 use mathlib.Core.Bool.{Bool, true, false}
 use mathlib.Core.List.{List}
 use Prim.Native.Nat.{ℕ}
+use Rattle.state.specs.Checks.{checked}
 use Rattle.state.specs.declared.Kind.{Kind}
 use Rattle.state.specs.declared.Kind.the-variants.{CodeEntry, InCarAction}
 use Rattle.state.specs.declared.Core.{Core}
-use Rattle.validation.specs.Calls.{checked, startAs}
+use Rattle.validation.specs.Calls.{startAs}
 use Rattle.start.specs.Way.{wayAs, taken}
 
 pub taken-as : (c : Core) (phone : List ℕ) (at clock : ℕ) (lent gives : Bool) (k : Kind) → taken c phone at clock (wayAs lent gives k) ≡ startAs c phone at clock lent gives k

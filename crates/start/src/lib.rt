@@ -124,7 +124,7 @@ fn way_at(core: Core, phone: &[u8], at: usize, clock: u64, lent: bool, gives: bo
     }
     let identity = core.policy.identity;
     if policy::is_car_fingerprint_confirmed(identity) {
-        let until = core.validation.cooldown;
+        let until = core.validation.cooldown_until;
         if clock < until {
             let left = session_times::seconds_to(until, clock);
             return Way::Refused(Answer::CoolingDown(left));

@@ -2,3 +2,4 @@ pub mod Answers
 pub mod Parts
 pub mod Running
 pub mod Replies
+pub mod Checks

@@ -1,5 +1,5 @@
 -- A core with one part changed.
-use Rattle.phones.specs.declared.PhoneId.{PhoneId}
+use Rattle.phones.specs.declared.ShortId.{ShortId}
 use Rattle.phones.specs.declared.PhoneList.{PhoneList}
 use Rattle.state.specs.declared.Methods.{Methods}
 use Rattle.state.specs.declared.Policy.{Policy}
@@ -20,7 +20,7 @@ withPaired c x = record { settings = c .settings; methods = c .methods; policy =
 abbrev pub withValidations : Core → Validations → Core
 withValidations c x = record { settings = c .settings; methods = c .methods; policy = c .policy; paired = c .paired; validations = x; peer = c .peer; validation = c .validation; probe = c .probe }
 
-abbrev pub withPeer : Core → PhoneId → Core
+abbrev pub withPeer : Core → ShortId → Core
 withPeer c x = record { settings = c .settings; methods = c .methods; policy = c .policy; paired = c .paired; validations = c .validations; peer = x; validation = c .validation; probe = c .probe }
 
 abbrev pub withValidation : Core → Validation → Core

@@ -96,9 +96,13 @@ validated r = record { access = true; availability = true; readonly = noR; appro
 
 -- ---- what an operation says
 
--- nothing changes and nothing is raised, as by a refusal (01, Replies)
+-- nothing changes and nothing is raised, as by a refusal (01, Replies): the core is the one that was lent
 unfoldable pub leave : Core → Answer → Said
 leave c a = record { answer = a; signals = noSignals; shows = Blank; core = c; code = Kept }
+
+-- nothing is raised, and the core is left as it is given here, as by a host note
+unfoldable pub quiet : Core → Answer → Said
+quiet c a = record { answer = a; signals = noSignals; shows = Blank; core = c; code = Kept }
 
 -- the digits stay, if there are any
 unfoldable pub reply : Core → Answer → Signals → Said

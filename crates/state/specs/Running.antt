@@ -4,6 +4,7 @@ use mathlib.Core.List.{[]}
 use Prim.Native.Nat.{ℕ}
 use lib.Dec.{ltb}
 use lib.ListN.{getD, replicate}
+use Rattle.phones.specs.Phones.{idBytes, idOf}
 use Rattle.state.specs.declared.Kind.{Kind}
 use Rattle.state.specs.declared.Kind.the-variants.{CodeEntry, InCarAction}
 use Rattle.state.specs.declared.Status.{Status}
@@ -27,11 +28,15 @@ isRunning TimedOut = false
 
 -- a method without an id
 abbrev pub noMethod : Method
-noMethod = record { id = record { bytes = replicate 32 0; len = 0 }; kind = InCarAction; approval = false }
+noMethod = record { id = record { bytes = replicate 32 0; len = 0 }; kind = InCarAction; «needs_approval» = false }
+
+-- the same method with zeros past the length of its id
+unfoldable pub cleanMethod : Method → Method
+cleanMethod m = record { id = idOf (idBytes (m .id)); kind = m .kind; «needs_approval» = m .«needs_approval» }
 
 -- what the list of methods is taken to hold past its end: it has eight, so that this is never read
 abbrev pub pastMethods : Method
-pastMethods = record { id = record { bytes = []; len = 0 }; kind = CodeEntry; approval = false }
+pastMethods = record { id = record { bytes = []; len = 0 }; kind = CodeEntry; «needs_approval» = false }
 
 -- the method at a place of the eight, or one without an id
 unfoldable pub methodAt : Methods → ℕ → Method

@@ -5,8 +5,8 @@ pub mod replies;
 pub mod running;
 
 use frames::ProbeFrame;
-use phones::PhoneId;
 use phones::PhoneList;
+use phones::ShortId;
 use saved_record::SavedRecord;
 
 // ValidationKind.
@@ -24,11 +24,11 @@ pub enum Status {
     TimedOut,
 }
 
-// ValidationMethod. Its id is a byte string of at most 32 bytes, as a phone's is.
+// ValidationMethod.
 pub struct Method {
-    pub id: PhoneId,
+    pub id: ShortId,
     pub kind: Kind,
-    pub approval: bool,
+    pub needs_approval: bool,
 }
 
 // The constants of the source that a new gate is given; times in ms.
@@ -71,7 +71,7 @@ pub struct Access {
 
 // The vehicle's read-only flag, CAN logging, and which bus is CAN FD.
 pub struct Buses {
-    pub locked: bool,
+    pub vehicle_read_only: bool,
     pub logging: bool,
     pub fd: [bool; 4],
 }
@@ -93,7 +93,7 @@ pub struct Validations {
 pub struct Session {
     pub present: bool,
     pub number: u32,
-    pub phone: PhoneId,
+    pub phone: ShortId,
     pub method: usize,
     pub car: [u8; 32],
     pub tries: usize,
@@ -105,7 +105,7 @@ pub struct Session {
 // State of validation.rs: the latest session, the end of the cooldown, the next session's number.
 pub struct Validation {
     pub session: Session,
-    pub cooldown: u64,
+    pub cooldown_until: u64,
     pub next: u32,
 }
 
@@ -135,7 +135,7 @@ pub struct Core {
     pub policy: Policy,
     pub paired: PhoneList,
     pub validations: Validations,
-    pub peer: PhoneId,
+    pub peer: ShortId,
     pub validation: Validation,
     pub probe: Probe,
 }

@@ -5,8 +5,8 @@ use crate::Policy;
 use crate::Probe;
 use crate::Validation;
 use crate::Validations;
-use phones::PhoneId;
 use phones::PhoneList;
+use phones::ShortId;
 ghost use mathlib.Core.Path.{_≡_};
 ghost use Rattle.state.specs.Parts.{withMethods, withPolicy, withPaired, withValidations, withPeer, withValidation, withProbe};
 
@@ -42,7 +42,7 @@ pub fn with_validations(core: Core, validations: Validations) -> Core
     c
 }
 
-pub fn with_peer(core: Core, peer: PhoneId) -> Core
+pub fn with_peer(core: Core, peer: ShortId) -> Core
     ensures { λ r. ⌜ r ≡ withPeer core peer ⌝ }
 {
     let mut c = core;

@@ -158,6 +158,13 @@ pub fn leave(core: Core, answer: Answer) -> Said
     reply(core, answer, signals)
 }
 
+pub fn quiet(core: Core, answer: Answer) -> Said
+    ensures { λ r. ⌜ r ≡ Replies.quiet core answer ⌝ }
+{
+    let signals = no_signals();
+    reply(core, answer, signals)
+}
+
 // The digits stay, if there are any.
 pub fn reply(core: Core, answer: Answer, signals: Signals) -> Said
     ensures { λ r. ⌜ r ≡ Replies.reply core answer signals ⌝ }

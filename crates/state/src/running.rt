@@ -4,9 +4,9 @@ use crate::Method;
 use crate::Methods;
 use crate::Session;
 use crate::Status;
-use phones::PhoneId;
+use phones::ShortId;
 ghost use mathlib.Core.Path.{_≡_};
-ghost use Rattle.state.specs.Running.{isCode, isRunning, noMethod, methodAt, inProgress, codeInProgress};
+ghost use Rattle.state.specs.Running.{isCode, isRunning, noMethod, cleanMethod, methodAt, inProgress, codeInProgress};
 
 pub fn is_code(k: Kind) -> bool
     ensures { λ r. ⌜ r ≡ isCode k ⌝ }
@@ -44,12 +44,23 @@ pub fn no_method() -> Method
     ensures { λ r. ⌜ r ≡ noMethod ⌝ }
 {
     let bytes = [0u8; 32];
-    let id = PhoneId { bytes, len: 0 };
+    let id = ShortId { bytes, len: 0 };
     Method {
         id,
         kind: Kind::InCarAction,
-        approval: false,
+        needs_approval: false,
     }
+}
+
+// The same method with zeros past the length of its id.
+pub fn clean_method(m: Method) -> Method
+    ensures { λ r. ⌜ r ≡ cleanMethod m ⌝ }
+{
+    let mut kept = m;
+    let old = m.id;
+    let id = phones::clean(old);
+    kept.id = id;
+    kept
 }
 
 // A session is there and InProgress.

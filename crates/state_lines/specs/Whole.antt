@@ -6,7 +6,7 @@ use lib.Dec.{eqb, ltb}
 use lib.ListN.{getD}
 use Rattle.ascii.specs.Ascii.{ascii}
 use Rattle.phones.specs.Phones.{idBytes, phonesOf}
-use Rattle.phones.specs.declared.PhoneId.{PhoneId}
+use Rattle.phones.specs.declared.ShortId.{ShortId}
 use Rattle.state.specs.Running.{pastMethods}
 use Rattle.state.specs.declared.Access.{Access}
 use Rattle.state.specs.declared.Buses.{Buses}
@@ -61,7 +61,7 @@ unfoldable pub fd : List Bool → Page → Page
 fd on p = p ▸ flag (ascii " fd=") (getD on 0 false) ▸ flag (ascii ",") (getD on 1 false) ▸ flag (ascii ",") (getD on 2 false) ▸ flag (ascii ",") (getD on 3 false)
 
 unfoldable pub buses : Buses → Page → Page
-buses s p = p ▸ flag (ascii " vehicle_read_only=") (s .locked) ▸ flag (ascii " logging=") (s .logging) ▸ fd (s .fd)
+buses s p = p ▸ flag (ascii " vehicle_read_only=") (s .«vehicle_read_only») ▸ flag (ascii " logging=") (s .logging) ▸ fd (s .fd)
 
 unfoldable pub policy : Policy → Page → Page
 policy s p = p ▸ identity (s .identity) ▸ access (s .access) ▸ buses (s .buses)
@@ -74,7 +74,7 @@ validated v p =
     (p ▸ text (ascii " validated_car=") ▸ bytes (v .car) ▸ text (ascii " validated=") ▸ idsFrom 0 (phonesOf (v .phones)))
 
 -- the connected phone; none exactly if its id is empty
-unfoldable pub peer : PhoneId → Page → Page
+unfoldable pub peer : ShortId → Page → Page
 peer id p = cond (eqb (id .len) 0) (text (ascii " peer=none") p) (p ▸ text (ascii " peer=") ▸ bytes (idBytes id))
 
 unfoldable pub pairings : Core → Page → Page
@@ -86,5 +86,5 @@ front core p = p ▸ settings (core .settings) ▸ methods (core .methods) ▸ p
 unfoldable pub gate : Gate → Page → Page
 gate g p =
     p ▸ front (g .core) ▸ sessionOrNone g
-    ▸ item (ascii " cooldown_until=") (g .core .validation .cooldown) ▸ item (ascii " next_session=") (g .core .validation .next)
+    ▸ item (ascii " cooldown_until=") (g .core .validation .«cooldown_until») ▸ item (ascii " next_session=") (g .core .validation .next)
     ▸ probe (g .core .probe)

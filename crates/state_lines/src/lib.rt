@@ -1,5 +1,5 @@
 // The whole state of a gate.
-use phones::PhoneId;
+use phones::ShortId;
 use state::Access;
 use state::Buses;
 use state::Car;
@@ -115,7 +115,7 @@ fn put_fd(out: &mut [u8], at: usize, on: [bool; 4]) -> usize
 fn put_buses(out: &mut [u8], at: usize, b: Buses) -> usize
     ensures { λ r. ⌜ page (now (out .exit)) r ≡ buses b (page (now (out .entry)) at) ⌝ }
 {
-    let k = lines::put_flag(out, at, b" vehicle_read_only=", b.locked);
+    let k = lines::put_flag(out, at, b" vehicle_read_only=", b.vehicle_read_only);
     let k = lines::put_flag(out, k, b" logging=", b.logging);
     let on = b.fd;
     put_fd(out, k, on)
@@ -146,7 +146,7 @@ fn put_validated(out: &mut [u8], at: usize, v: Validations) -> usize
     lines::parts::put_phones(out, k, list)
 }
 
-fn put_peer(out: &mut [u8], at: usize, id: PhoneId) -> usize
+fn put_peer(out: &mut [u8], at: usize, id: ShortId) -> usize
     ensures { λ r. ⌜ page (now (out .exit)) r ≡ peer id (page (now (out .entry)) at) ⌝ }
 {
     if id.len == 0 {
@@ -186,7 +186,7 @@ pub fn put_gate(out: &mut [u8], at: usize, g: Gate) -> usize
     let core = g.core;
     let k = put_front(out, at, core);
     let k = run_lines::session::put_session_or_none(out, k, g);
-    let k = lines::put_item(out, k, b" cooldown_until=", core.validation.cooldown);
+    let k = lines::put_item(out, k, b" cooldown_until=", core.validation.cooldown_until);
     let k = lines::put_item(out, k, b" next_session=", core.validation.next as u64);
     let w = core.probe;
     run_lines::probe::put_probe(out, k, w)

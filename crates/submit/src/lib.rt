@@ -19,7 +19,7 @@ fn failed_core(core: Core, clock: u64) -> Core
     let e = session::ended_as(t, Status::Failed, clock);
     let until = session_times::saturating_add(clock, core.settings.cooldown);
     v.session = e;
-    v.cooldown = until;
+    v.cooldown_until = until;
     state::parts::with_validation(core, v)
 }
 
@@ -39,7 +39,7 @@ fn wrong(core: Core, clock: u64) -> Said
         let t = session::tried_once(s);
         let c = validation::ends::with_session(core, t);
         let answer = wrong_answer(c, clock);
-        return phone_trust::told(c, answer);
+        return phone_trust::notified(c, answer);
     }
     let c = failed_core(core, clock);
     let answer = wrong_answer(c, clock);
@@ -52,7 +52,7 @@ fn right_code(core: Core, clock: u64) -> Said
     ensures { λ r. ⌜ r ≡ rightCode core clock ⌝ }
 {
     if validation::ends::full_for(core) {
-        return phone_trust::told(core, Answer::ListFull);
+        return phone_trust::notified(core, Answer::ListFull);
     }
     let c = validation::ends::succeeded_core(core, clock);
     let s = c.validation.session;
@@ -64,7 +64,7 @@ fn judge_as(core: Core, clock: u64, right: bool, kind: Kind) -> Said
     ensures { λ r. ⌜ r ≡ judgeAs core clock right kind ⌝ }
 {
     match kind {
-        Kind::InCarAction => phone_trust::told(core, Answer::NotCodeEntry),
+        Kind::InCarAction => phone_trust::notified(core, Answer::NotCodeEntry),
         Kind::CodeEntry => {
             if right {
                 return right_code(core, clock);
@@ -85,7 +85,7 @@ fn submitted(core: Core, phone: &[u8], clock: u64, right: bool) -> Said
         let kind = method.kind;
         return judge_as(core, clock, right, kind);
     }
-    phone_trust::told(core, Answer::NoSession)
+    phone_trust::notified(core, Answer::NoSession)
 }
 
 // `text`: the typed bytes are text; `right`: they are the code.

@@ -33,14 +33,14 @@ abbrev pub writable : List ℕ → Policy
 writable digest = record {
   identity = record { platform = 7; confirmed = true; car = carOf digest };
   access = record { approval = carOf digest; unlocked = true; production = false };
-  buses = record { locked = false; logging = false; fd = replicate 4 false };
+  buses = record { «vehicle_read_only» = false; logging = false; fd = replicate 4 false };
 }
 
 abbrev pub settings : Settings
 settings = record { digits = 4; tries = 3; session = 60000; cooldown = 30000; keep = 10000; bonded = 32 }
 
 abbrev pub methodOf : MadeId → Method
-methodOf made = record { id = made .id; kind = CodeEntry; approval = true }
+methodOf made = record { id = made .id; kind = CodeEntry; «needs_approval» = true }
 
 -- a gate with that policy, the validated phones paired
 abbrev pub opened : Gate → List ℕ → Gate

@@ -8,12 +8,12 @@ use Rattle.state.specs.declared.Outcome.{Outcome}
 use Rattle.answers.specs.Query.{Reply, plain, approval, access, phones, trust, peer, phoneAccess, methods, challenge, saved, encodePhoneValidations}
 use Rattle.definition.specs.Gate.{Given, given, step, startValidation, submitValidationCode, change, ask, allowCanTx, restorePhoneValidations}
 use Rattle.timed.specs.declared.held.Run.{Run}
-use Rattle.timed.specs.Seen.{add, recordByte, raised, told}
+use Rattle.timed.specs.Seen.{add, recordByte, raised, answerSeen}
 use Rattle.timed.specs.Held.{ready}
 
--- what is told by a reply: an answer, or a byte of a record
+-- what is answerSeen by a reply: an answer, or a byte of a record
 abbrev pub toldBy : Reply → ℕ → ℕ
-toldBy (plain a) i = told a
+toldBy (plain a) i = answerSeen a
 toldBy (approval a) i = 0
 toldBy (access a) i = 0
 toldBy (phones a) i = 0

@@ -63,7 +63,7 @@ fn policy(digest: [u8; 32]) -> Policy
     };
     let fd = [false; 4];
     let buses = Buses {
-        locked: false,
+        vehicle_read_only: false,
         logging: false,
         fd,
     };
@@ -95,7 +95,7 @@ pub fn ready(digest: [u8; 32], bytes: &[u8], method: &[u8]) -> Gate
     let m = Method {
         id,
         kind: Kind::CodeEntry,
-        approval: true,
+        needs_approval: true,
     };
     let settings = Settings {
         digits: 4,

@@ -72,8 +72,8 @@ fn reply(s: SessionReply) -> u32
     add(s.seconds, (s.tries % 256) as u32)
 }
 
-fn told(a: Answer) -> u32
-    ensures { λ r. ⌜ r ≡ Seen.told a ⌝ }
+fn answer_seen(a: Answer) -> u32
+    ensures { λ r. ⌜ r ≡ Seen.answerSeen a ⌝ }
 {
     match a {
         Answer::Done => 2,
@@ -118,6 +118,6 @@ pub fn after(sum: u32, o: Outcome, i: u64) -> u32
 {
     let answer = o.answer;
     let signals = o.signals;
-    let more = add(told(answer), raised(signals, i));
+    let more = add(answer_seen(answer), raised(signals, i));
     add(sum, more)
 }

@@ -48,7 +48,7 @@ calm g p = record { gate = g; page = signals noSignals p; called = true }
 
 -- the gate with another number for its next session and another relock count
 abbrev pub nextIs : Validation → ℕ → Validation
-nextIs v n = record { session = v .session; cooldown = v .cooldown; next = n }
+nextIs v n = record { session = v .session; «cooldown_until» = v .«cooldown_until»; next = n }
 
 abbrev pub relocksAre : ProbeState → ℕ → ProbeState
 relocksAre b n = record { window = b .window; attempts = b .attempts; relocks = n; marks = b .marks }

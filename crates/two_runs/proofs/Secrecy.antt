@@ -20,7 +20,7 @@ use Rattle.state.specs.Running.{isCode, inProgress, methodAt, codeInProgress}
 use Rattle.range.specs.Range.{inRange}
 use Rattle.state.specs.Replies.{noCode, noChallenge, noSignals, codeAt, leave, fill}
 use Rattle.range.specs.Range.{served}
-use Rattle.phone_trust.specs.Trust.{told}
+use Rattle.phone_trust.specs.Trust.{notified}
 use Rattle.session.specs.declared.Lapse.{Lapse}
 use Rattle.session.specs.declared.Lapse.the-variants.{Stays, Ends}
 use Rattle.session.specs.Session.{isOf, lapseOf, placeOf}
@@ -86,9 +86,9 @@ submitted-by c phone clock {r} {r′} e = go (inProgress s) refl (methodAt (c .m
     s = c .validation .session
 
     go : (p : Bool) → inProgress s ≡ p → (k : Kind) → methodAt (c .methods) (s .method) .kind ≡ k
-        → cond (p && isOf s phone) (judgeAs c clock r k) (told c NoSession) ≡ cond (p && isOf s phone) (judgeAs c clock r′ k) (told c NoSession)
+        → cond (p && isOf s phone) (judgeAs c clock r k) (notified c NoSession) ≡ cond (p && isOf s phone) (judgeAs c clock r′ k) (notified c NoSession)
     go false p k q = refl
-    go true p k q = ap (λ (o : Said). cond (isOf s phone) o (told c NoSession)) (judge-as c clock k (λ z. e (runs-now c p (q ∙ z))))
+    go true p k q = ap (λ (o : Said). cond (isOf s phone) o (notified c NoSession)) (judge-as c clock k (λ z. e (runs-now c p (q ∙ z))))
 
 submit-by : (c : Core) (phone : List ℕ) (clock : ℕ) (text : Bool) {r r′ : Bool} → (text ≡ true → codeRuns (tick c clock .core) ≡ true → r ≡ r′)
     → submit c phone clock text r ≡ submit c phone clock text r′
@@ -236,10 +236,10 @@ challenge-as c held held′ e = go (inRange c) (inProgress s) (codeInProgress (c
     same true = λ i. record { running = true; session = s .number; method = s .method; length = c .settings .digits; code = blanked-shown (c .settings .digits) held held′ e i }
     same false = refl
 
-    told : Bool → Bool → Bool → List ℕ → ChallengeAnswer
-    told x y b held = cond x (cond y (record { answer = Done; challenge = of b held }) (record { answer = Nothing; challenge = noChallenge })) (record { answer = BadSettings; challenge = noChallenge })
+    challenged : Bool → Bool → Bool → List ℕ → ChallengeAnswer
+    challenged x y b held = cond x (cond y (record { answer = Done; challenge = of b held }) (record { answer = Nothing; challenge = noChallenge })) (record { answer = BadSettings; challenge = noChallenge })
 
-    go : (x y b : Bool) → hideReply (Query.challenge (told x y b held)) ≡ hideReply (Query.challenge (told x y b held′))
+    go : (x y b : Bool) → hideReply (Query.challenge (challenged x y b held)) ≡ hideReply (Query.challenge (challenged x y b held′))
     go true true b = λ i. Query.challenge (record { answer = Done; challenge = same b i })
     go true false b = refl
     go false y b = refl

@@ -16,7 +16,7 @@ use Rattle.state.specs.declared.Said.{Said}
 use Rattle.state.specs.Answers.{number}
 use Rattle.state.specs.Running.{isRunning, inProgress, codeInProgress, methodAt}
 use Rattle.state.specs.Replies.{noChallenge, leave, reply, finish, challengeChanged}
-use Rattle.phone_trust.specs.Trust.{told}
+use Rattle.phone_trust.specs.Trust.{notified}
 use Rattle.session.specs.Session.{endedAs, triedOnce, isOf, placeOf}
 use Rattle.validation.specs.Calls.{Check, checked, endSession, runsFor, startChecks, newSession, challengeFor, begin, startAs, startAt, start, succeed, succeededCore, fullFor, failedCore, triedCore, wrong, wrongAnswer, rightCode, judge, judgeAs, submitted, submit}
 use Rattle.two_runs.specs.Demand.{codeRuns}
@@ -84,9 +84,9 @@ submitted-cond : (c : Core) (b : Bool) (o o′ : Said) → Submitted c o → Sub
 submitted-cond c true o o′ t t′ = t
 submitted-cond c false o o′ t t′ = t′
 
-told-as : (c : Core) (a : Answer) → eqb (number a) 10 ≡ false → Submitted c (told c a)
-unfolding told reply
-told-as c a e = record { turn = rw e (turn-beside c c a _ refl refl refl) }
+notified-as : (c : Core) (a : Answer) → eqb (number a) 10 ≡ false → Submitted c (notified c a)
+unfolding notified reply
+notified-as c a e = record { turn = rw e (turn-beside c c a _ refl refl refl) }
 
 ended-as : (c : Core) (a : Answer) (status : Status) (clock : ℕ) → eqb (number a) 10 ≡ false → isRunning status ≡ false → Submitted c (endSession c a status clock)
 unfolding endSession finish endedAs
@@ -99,11 +99,11 @@ module _ (c : Core) (clock : ℕ) where
 
   right-as : Submitted c (rightCode c clock)
   unfolding rightCode
-  right-as = submitted-cond c (fullFor c) _ _ (told-as c Answer.ListFull refl) (succeeded-as _ refl)
+  right-as = submitted-cond c (fullFor c) _ _ (notified-as c Answer.ListFull refl) (succeeded-as _ refl)
 
   module _ (runs : codeRuns c ≡ true) (low : 1 ≤ c .validation .session .tries) where
-    tried-as : Submitted c (told (triedCore c) (wrongAnswer (triedCore c) clock))
-    unfolding told reply triedCore triedOnce codeRuns codeInProgress inProgress
+    tried-as : Submitted c (notified (triedCore c) (wrongAnswer (triedCore c) clock))
+    unfolding notified reply triedCore triedOnce codeRuns codeInProgress inProgress
     tried-as = record { turn = record { fit = record { settings = refl; shows = tt; code = refl }; paid = rw runs (omega arith) } }
 
     failed-as : Submitted c (finish (failedCore c clock) (wrongAnswer (failedCore c clock) clock) (challengeChanged noChallenge))
@@ -118,7 +118,7 @@ module _ (c : Core) (low : codeRuns c ≡ true → 1 ≤ c .validation .session 
   judged-as : (right : Bool) (k : Kind) → inProgress (c .validation .session) ≡ true → methodAt (c .methods) (c .validation .session .method) .kind ≡ k
       → Submitted c (judgeAs c clock right k)
   unfolding judge
-  judged-as right InCarAction p k = told-as c Answer.NotCodeEntry refl
+  judged-as right InCarAction p k = notified-as c Answer.NotCodeEntry refl
   judged-as true CodeEntry p k = right-as c clock
   judged-as false CodeEntry p k = let r = runs-now c p k in wrong-as c clock r (low r)
 
@@ -127,9 +127,9 @@ module _ (c : Core) (low : codeRuns c ≡ true → 1 ≤ c .validation .session 
   ticked-as phone right = go (inProgress (c .validation .session)) refl
     where
       go : (p : Bool) → inProgress (c .validation .session) ≡ p
-          → Submitted c (cond (p && isOf (c .validation .session) phone) (judgeAs c clock right (methodAt (c .methods) (c .validation .session .method) .kind)) (told c Answer.NoSession))
-      go true p = submitted-cond c (isOf (c .validation .session) phone) _ _ (judged-as right (methodAt (c .methods) (c .validation .session .method) .kind) p refl) (told-as c Answer.NoSession refl)
-      go false p = told-as c Answer.NoSession refl
+          → Submitted c (cond (p && isOf (c .validation .session) phone) (judgeAs c clock right (methodAt (c .methods) (c .validation .session .method) .kind)) (notified c Answer.NoSession))
+      go true p = submitted-cond c (isOf (c .validation .session) phone) _ _ (judged-as right (methodAt (c .methods) (c .validation .session .method) .kind) p refl) (notified-as c Answer.NoSession refl)
+      go false p = notified-as c Answer.NoSession refl
 
   pub submitted-as : (phone : List ℕ) (text right : Bool) → Submitted c (submit c phone clock text right)
   unfolding submit leave

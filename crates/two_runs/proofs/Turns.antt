@@ -198,12 +198,12 @@ unfolding Store.forgetting Store.stored
 turn-forgetting c c′ a id p l e = search turning
 
 turn-locked : (c : Core) (enabled : Bool) → Turn c 0 (Can.setReadOnly c enabled)
-unfolding Can.setReadOnly Changes.changed
+unfolding Can.setReadOnly Changes.policyChanged
 turn-locked c true = search turning
 turn-locked c false = search turning
 
 pub turn-changed : (c : Core) (k : Change) → Turn c 0 (changed c k)
-unfolding changed Validation.cancel Validation.complete Validation.completed Validation.tick Methods.noteAvailable Methods.noteContinue Pairing.pair Pairing.unpair Pairing.clear Store.forget Store.prune Pairing.setPeer Store.restore Trust.told Store.stored Access.approve Access.approvedAs Access.revokeApproval Access.restoreApproval DevLock.setDevUnlocked DevLock.declareProduction CarIdentity.confirmPlatform CarIdentity.revokePlatform CarIdentity.confirmFingerprint CarIdentity.notePlatform Can.noteLogging Can.noteFdBus Changes.changed Probe.openProbe Probe.closeProbe Probe.windowChanged Tx.allow Probe.heard
+unfolding changed Validation.cancel Validation.complete Validation.completed Validation.tick Methods.noteAvailable Methods.noteContinue Pairing.pair Pairing.unpair Pairing.clear Store.forget Store.prune Pairing.setPeer Store.restore Trust.notified Store.stored Access.approve Access.approvedAs Access.revokeApproval Access.restoreApproval DevLock.setDevUnlocked DevLock.declareProduction CarIdentity.confirmPlatform CarIdentity.revokePlatform CarIdentity.confirmFingerprint CarIdentity.notePlatform Can.noteLogging Can.noteFdBus Changes.policyChanged Probe.openProbe Probe.closeProbe Probe.windowChanged Tx.allow Probe.heard
 turn-changed c (Gate.cancelValidation phone clock) = search turning
 turn-changed c (Gate.completeValidationAction session clock) = turn-ticking c clock _ _ (search turning)
 turn-changed c (Gate.tickValidation clock) = turn-ticking c clock _ _ (search turning)

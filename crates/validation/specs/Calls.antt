@@ -22,37 +22,19 @@ use Rattle.state.specs.declared.Said.{Said}
 use Rattle.state.specs.Parts.{withValidations, withValidation}
 use Rattle.state.specs.Running.{isCode, methodAt, inProgress}
 use Rattle.state.specs.Replies.{noChallenge, challengeChanged, validated, leave, finish}
+use Rattle.state.specs.Checks.{Check, _refuses_, checked, unmet}
 use Rattle.policy.specs.Policy.{fingerprintConfirmed}
 use Rattle.validations.specs.Store.{recordFor, isFull, validate}
-use Rattle.phone_trust.specs.Trust.{told}
+use Rattle.phone_trust.specs.Trust.{notified}
 use Rattle.session.specs.declared.Lapse.{Lapse}
 use Rattle.session.specs.declared.Lapse.the-variants.{Stays, Ends}
 use Rattle.session_times.specs.Times.{saturatingAdd, secondsTo, nextNumber}
 use Rattle.session.specs.Session.{replyOf, endedAs, triedOnce, isOf, lostReadWrite, noteAt, lapseOf, placeOf}
 
--- ---- checks in the order written: the first that meets the call refuses it and changes nothing
-
-pub record Check : Type 0 where
-  pub meets : Bool
-  pub answer : Answer
-
-infixl 10 _⇒_
-abbrev pub _⇒_ : Bool → Answer → Check
-b ⇒ a = record { meets = b; answer = a }
-
-unfoldable pub checked : Core → List Check → Said → Said
-checked c [] o = o
-checked c (k ∷ ks) o = cond (k .meets) (leave c (k .answer)) (checked c ks o)
-
--- no check meets the call
-unfoldable pub clear : List Check → Bool
-clear [] = true
-clear (k ∷ ks) = not (k .meets) && clear ks
-
 -- ---- tick
 
 abbrev pub withSession : Core → Session → Core
-withSession c s = withValidation c (record { session = s; cooldown = c .validation .cooldown; next = c .validation .next })
+withSession c s = withValidation c (record { session = s; «cooldown_until» = c .validation .«cooldown_until»; next = c .validation .next })
 
 -- after_change: the running session ended
 unfoldable pub endSession : Core → Answer → Status → ℕ → Said
@@ -76,13 +58,13 @@ runsFor s phone = inProgress s && isOf s phone
 -- the refusals before the draw
 unfoldable pub startChecks : Core → List ℕ → ℕ → ℕ → List Check
 startChecks c phone at clock =
-    (ltb 32 (length phone) ⇒ IdTooLong) ∷
-    (leb (c .methods .count) at ⇒ UnknownMethod) ∷
-    (not (fingerprintConfirmed (c .policy .identity)) ⇒ CarNotIdentified) ∷
-    (ltb clock (c .validation .cooldown) ⇒ CoolingDown (secondsTo (c .validation .cooldown) clock)) ∷
-    (inProgress (c .validation .session) && not (isOf (c .validation .session) phone) ⇒ OtherPhoneSession) ∷
-    (lostReadWrite c (methodAt (c .methods) at) ⇒ MethodUnavailable) ∷
-    (not (noteAt (c .methods .available) at) ⇒ MethodNotAvailableNow) ∷ []
+    (ltb 32 (length phone) refuses IdTooLong) ∷  -- 18
+    (leb (c .methods .count) at refuses UnknownMethod) ∷  -- 1
+    (not (fingerprintConfirmed (c .policy .identity)) refuses CarNotIdentified) ∷  -- 2
+    (ltb clock (c .validation .«cooldown_until») refuses CoolingDown (secondsTo (c .validation .«cooldown_until») clock)) ∷  -- 3
+    (inProgress (c .validation .session) && not (isOf (c .validation .session) phone) refuses OtherPhoneSession) ∷  -- 4
+    (lostReadWrite c (methodAt (c .methods) at) refuses MethodUnavailable) ∷  -- 5
+    (not (noteAt (c .methods .available) at) refuses MethodNotAvailableNow) ∷ []  -- 6
 
 unfoldable pub newSession : Core → List ℕ → ℕ → ℕ → Session
 newSession c phone at clock = record {
@@ -111,7 +93,7 @@ challengeFor c at kind = record {
 unfoldable pub begin : Core → List ℕ → ℕ → ℕ → Mark → Said
 begin c phone at clock mark =
     let s = newSession c phone at clock in
-    let c′ = withValidation c (record { session = s; cooldown = c .validation .cooldown; next = nextNumber (c .validation .next) }) in
+    let c′ = withValidation c (record { session = s; «cooldown_until» = c .validation .«cooldown_until»; next = nextNumber (c .validation .next) }) in
     record {
       answer = Answer.Session (replyOf c′ s clock);
       signals = challengeChanged (challengeFor c at (methodAt (c .methods) at .kind));
@@ -124,7 +106,10 @@ begin c phone at clock mark =
 abbrev pub startAs : Core → List ℕ → ℕ → ℕ → Bool → Bool → Kind → Said
 startAs c phone at clock lent gives InCarAction = begin c phone at clock Blank
 startAs c phone at clock lent gives CodeEntry =
-    checked c ((not lent ⇒ NoRandomSource) ∷ (not gives ⇒ RandomSpent) ∷ []) (begin c phone at clock Fresh)
+    checked c
+    ((not lent refuses NoRandomSource) ∷  -- 7
+    (not gives refuses RandomSpent) ∷ [])  -- 19
+    (begin c phone at clock Fresh)
 
 unfoldable pub startAt : Core → List ℕ → ℕ → ℕ → Bool → Bool → Said
 startAt c phone at clock lent gives =
@@ -137,7 +122,7 @@ start c phone method clock lent gives = startAt c phone (placeOf (c .methods) me
 -- a start comes to its draw: its method is CodeEntry and nothing before 7 refuses it
 unfoldable pub draws : Core → List ℕ → List ℕ → ℕ → Bool
 draws c phone method clock =
-    clear (startChecks c phone (placeOf (c .methods) method) clock) && isCode (methodAt (c .methods) (placeOf (c .methods) method) .kind)
+    unmet (startChecks c phone (placeOf (c .methods) method) clock) && isCode (methodAt (c .methods) (placeOf (c .methods) method) .kind)
 
 -- ---- a session succeeds
 
@@ -162,7 +147,7 @@ failedCore c clock =
     withValidation c
     (record {
       session = endedAs (triedOnce (c .validation .session)) Failed clock;
-      cooldown = saturatingAdd clock (c .settings .cooldown);
+      «cooldown_until» = saturatingAdd clock (c .settings .cooldown);
       next = c .validation .next;
     })
 
@@ -178,19 +163,19 @@ wrongAnswer c clock = WrongCode (replyOf c (c .validation .session) clock)
 unfoldable pub wrong : Core → ℕ → Said
 wrong c clock =
     cond (ltb 1 (c .validation .session .tries))
-    (told (triedCore c) (wrongAnswer (triedCore c) clock))
+    (notified (triedCore c) (wrongAnswer (triedCore c) clock))
     (finish (failedCore c clock) (wrongAnswer (failedCore c clock) clock) (challengeChanged noChallenge))
 
 unfoldable pub rightCode : Core → ℕ → Said
 rightCode c clock =
-    cond (fullFor c) (told c ListFull) (succeed c (sessionAnswer (succeededCore c clock) clock) clock)
+    cond (fullFor c) (notified c ListFull) (succeed c (sessionAnswer (succeededCore c clock) clock) clock)
 
 -- the code is judged
 unfoldable pub judge : Core → ℕ → Bool → Said
 judge c clock right = cond right (rightCode c clock) (wrong c clock)
 
 abbrev pub judgeAs : Core → ℕ → Bool → Kind → Said
-judgeAs c clock right InCarAction = told c NotCodeEntry
+judgeAs c clock right InCarAction = notified c NotCodeEntry
 judgeAs c clock right CodeEntry = judge c clock right
 
 -- the tick left the session as it was
@@ -198,21 +183,23 @@ unfoldable pub submitted : Core → List ℕ → ℕ → Bool → Said
 submitted c phone clock right =
     cond (runsFor (c .validation .session) phone)
     (judgeAs c clock right (methodAt (c .methods) (c .validation .session .method) .kind))
-    (told c NoSession)
+    (notified c NoSession)
 
 -- submit_validation_code
 unfoldable pub submit : Core → List ℕ → ℕ → Bool → Bool → Said
 submit c phone clock text right =
-    cond text (ticking c clock NoSession (submitted c phone clock right) (lapseOf c clock)) (leave c NotText)
+    checked c
+    ((not text refuses NotText) ∷ [])  -- 20
+    (ticking c clock NoSession (submitted c phone clock right) (lapseOf c clock))
 
 -- ---- cancel, complete
 
 -- cancel_validation
 unfoldable pub cancel : Core → List ℕ → ℕ → Said
 cancel c phone clock =
-    cond (runsFor (c .validation .session) phone)
+    checked c
+    ((not (runsFor (c .validation .session) phone) refuses NoSession) ∷ [])  -- 8
     (endSession c Done Cancelled clock)
-    (leave c NoSession)
 
 -- this session runs, and it is an in-car action
 unfoldable pub isAction : Core → ℕ → Bool

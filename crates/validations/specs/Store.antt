@@ -5,11 +5,11 @@ use Prim.Native.Nat.{ℕ}
 use lib.Dec.{eqb, ltb}
 use lib.ListN.{length, replicate}
 use Rattle.arrays.specs.Arrays.{sameBytes}
-use Rattle.phones.specs.declared.PhoneId.{PhoneId}
+use Rattle.phones.specs.declared.ShortId.{ShortId}
 use Rattle.phones.specs.Phones.{idBytes, phonesOf, listOf, contains, removeAll, retainIn, appended}
 use Rattle.saved_record.specs.declared.SavedRecord.{SavedRecord}
-use Rattle.saved_record.specs.declared.RecordAnswer.{RecordAnswer}
-use Rattle.saved_record.specs.declared.RecordAnswer.the-variants.{Restored, Malformed, TooLarge}
+use Rattle.saved_record.specs.declared.RecordVerdict.{RecordVerdict}
+use Rattle.saved_record.specs.declared.RecordVerdict.the-variants.{Restored, Malformed, TooLarge}
 use Rattle.saved_record.specs.SavedRecord.{recordOf, encoded, decoded, restored}
 use Rattle.state.specs.declared.Validations.{Validations}
 use Rattle.state.specs.declared.Core.{Core}
@@ -57,7 +57,7 @@ prune c =
     (stored c Done (storeOf (c .validations .car) kept))
 
 -- restore_phone_validations: both refusals empty the store
-abbrev pub restoreAnswer : RecordAnswer → Answer
+abbrev pub restoreAnswer : RecordVerdict → Answer
 restoreAnswer Restored = Done
 restoreAnswer Malformed = Answer.Malformed
 restoreAnswer TooLarge = Answer.TooLarge
@@ -75,7 +75,7 @@ isFull v car id =
     ltb 31 (length (phonesOf (v .phones))) && sameBytes (v .car) car && not (contains id (phonesOf (v .phones)))
 
 -- add_phone_validation: a list of another car is replaced
-unfoldable pub validate : Validations → List ℕ → PhoneId → Validations
+unfoldable pub validate : Validations → List ℕ → ShortId → Validations
 validate v car p =
     cond (ltb 0 (length (phonesOf (v .phones))) && sameBytes (v .car) car)
     (cond (contains (idBytes p) (phonesOf (v .phones))) v (record { car = v .car; phones = appended (v .phones) (idBytes p) }))

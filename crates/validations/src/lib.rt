@@ -1,6 +1,6 @@
 // The store of validated phones: one car and its list (phone_trust.rs).
-use phones::PhoneId;
-use saved_record::RecordAnswer;
+use phones::ShortId;
+use saved_record::RecordVerdict;
 use saved_record::SavedRecord;
 use state::Answer;
 use state::Core;
@@ -85,13 +85,13 @@ pub fn prune_phone_validations(core: Core) -> Said
     stored(core, Answer::Done, left)
 }
 
-fn restore_answer(a: RecordAnswer) -> Answer
+fn restore_answer(a: RecordVerdict) -> Answer
     ensures { λ r. ⌜ r ≡ restoreAnswer a ⌝ }
 {
     match a {
-        RecordAnswer::Restored => Answer::Done,
-        RecordAnswer::Malformed => Answer::Malformed,
-        RecordAnswer::TooLarge => Answer::TooLarge,
+        RecordVerdict::Restored => Answer::Done,
+        RecordVerdict::Malformed => Answer::Malformed,
+        RecordVerdict::TooLarge => Answer::TooLarge,
     }
 }
 
@@ -110,7 +110,7 @@ pub fn restore_phone_validations(core: Core, bytes: &[u8]) -> Said
 }
 
 // This car's list is full without the phone.
-pub fn is_full(v: Validations, car: [u8; 32], p: PhoneId) -> bool
+pub fn is_full(v: Validations, car: [u8; 32], p: ShortId) -> bool
     ensures { λ r. ⌜ r ≡ Store.isFull v car (idBytes p) ⌝ }
 {
     let list = v.phones;
@@ -136,7 +136,7 @@ fn of_car(v: Validations, car: [u8; 32]) -> bool
 }
 
 // add_phone_validation.
-pub fn validate(v: Validations, car: [u8; 32], p: PhoneId) -> Validations
+pub fn validate(v: Validations, car: [u8; 32], p: ShortId) -> Validations
     ensures { λ r. ⌜ r ≡ Store.validate v car p ⌝ }
 {
     let list = v.phones;

@@ -13,19 +13,19 @@ with-buses-requires c κs = tt
 with-policy-requires : tie.Need-with-policy-requires
 with-policy-requires c κs = tt
 
-leave-requires : tie.Need-leave-requires
-leave-requires c κs = tt
+quiet-requires : tie.Need-quiet-requires
+quiet-requires c κs = tt
 
 returns : tie.Need-returns
 unfolding noteFdBus
-returns c = rw (lt-ltb _ _ (c .before .before .before .before .before .if1 .taken), ← c .before .before .with-buses .ensures, ← c .before .with-policy .ensures, ← c .leave .ensures)
+returns c = rw (lt-ltb _ _ (c .before .before .before .before .before .if1 .taken), ← c .before .before .with-buses .ensures, ← c .before .with-policy .ensures, ← c .quiet .ensures)
 
-leave-requires-2 : tie.Need-leave-requires-2
-leave-requires-2 c κs = tt
+leave-requires : tie.Need-leave-requires
+leave-requires c κs = tt
 
 returns-2 : tie.Need-returns-2
 unfolding noteFdBus
-returns-2 c = rw (le-ltb _ _ (c .before .if1 .left), ← c .leave2 .ensures)
+returns-2 c = rw (le-ltb _ _ (c .before .if1 .left), ← c .leave .ensures)
 
 pub note-can-fd-bus-spec : {M : Type 1} → statement M
 note-can-fd-bus-spec =
@@ -34,7 +34,7 @@ note-can-fd-bus-spec =
     element-write-buses
     with-buses-requires
     with-policy-requires
-    leave-requires
+    quiet-requires
     returns
-    leave-requires-2
+    leave-requires
     returns-2)

@@ -20,19 +20,19 @@ relocked-requires c κs = tt
 with-probe-requires : tie.Need-with-probe-requires
 with-probe-requires c κs = tt
 
-changed-requires : tie.Need-changed-requires
-changed-requires c κs = tt
+policy-changed-requires : tie.Need-policy-changed-requires
+policy-changed-requires c κs = tt
 
 returns : tie.Need-returns
 unfolding setReadOnly
-returns c = rw (← c .before .before .before .before .before .before .before .before .before .lock-asked .ensures, ← c .before .before .before .before .before .before .before .with-buses .ensures, ← c .before .before .before .before .before .before .is-can-read-only .ensures, ← c .before .before .before .before .before .yes-no .ensures, c .before .before .before .before .if1 .taken, ← c .before .before .relocked .ensures, ← c .before .with-probe .ensures, ← c .changed .ensures)
+returns c = rw (← c .before .before .before .before .before .before .before .before .before .lock-asked .ensures, ← c .before .before .before .before .before .before .before .with-buses .ensures, ← c .before .before .before .before .before .before .is-can-read-only .ensures, ← c .before .before .before .before .before .yes-no .ensures, c .before .before .before .before .if1 .taken, ← c .before .before .relocked .ensures, ← c .before .with-probe .ensures, ← c .policy-changed .ensures)
 
-changed-requires-2 : tie.Need-changed-requires-2
-changed-requires-2 c κs = tt
+policy-changed-requires-2 : tie.Need-policy-changed-requires-2
+policy-changed-requires-2 c κs = tt
 
 returns-2 : tie.Need-returns-2
 unfolding setReadOnly
-returns-2 c = rw (← c .before .before .before .before .before .before .lock-asked .ensures, ← c .before .before .before .before .with-buses .ensures, ← c .before .before .before .is-can-read-only .ensures, ← c .before .before .yes-no .ensures, c .before .if1 .left, ← c .changed2 .ensures)
+returns-2 c = rw (← c .before .before .before .before .before .before .lock-asked .ensures, ← c .before .before .before .before .with-buses .ensures, ← c .before .before .before .is-can-read-only .ensures, ← c .before .before .yes-no .ensures, c .before .if1 .left, ← c .policy-changed2 .ensures)
 
 pub set-can-read-only-spec : {M : Type 1} → statement M
 set-can-read-only-spec =
@@ -44,7 +44,7 @@ set-can-read-only-spec =
     yes-no-requires
     relocked-requires
     with-probe-requires
-    changed-requires
+    policy-changed-requires
     returns
-    changed-requires-2
+    policy-changed-requires-2
     returns-2)

@@ -14,19 +14,19 @@ with-mark-requires c κs = tt
 with-probe-requires : tie.Need-with-probe-requires
 with-probe-requires c κs = tt
 
-leave-requires : tie.Need-leave-requires
-leave-requires c κs = tt
+quiet-requires : tie.Need-quiet-requires
+quiet-requires c κs = tt
 
 returns : tie.Need-returns
 unfolding heard
-returns c = rw (c .leave .ensures, c .before .with-probe .ensures, c .before .before .with-mark .ensures, c .before .before .before .mark-of .ensures, ← c .before .before .before .before .before .before .before .bus-exists .ensures, c .before .before .before .before .before .before .if1 .taken)
+returns c = rw (c .quiet .ensures, c .before .with-probe .ensures, c .before .before .with-mark .ensures, c .before .before .before .mark-of .ensures, ← c .before .before .before .before .before .before .before .bus-exists .ensures, c .before .before .before .before .before .before .if1 .taken)
 
-leave-requires-2 : tie.Need-leave-requires-2
-leave-requires-2 c κs = tt
+leave-requires : tie.Need-leave-requires
+leave-requires c κs = tt
 
 returns-2 : tie.Need-returns-2
 unfolding heard
-returns-2 c = rw (c .leave2 .ensures, ← c .before .before .bus-exists .ensures, c .before .if1 .left)
+returns-2 c = rw (c .leave .ensures, ← c .before .before .bus-exists .ensures, c .before .if1 .left)
 
 pub heard-can-frame-spec : {M : Type 1} → statement M
 heard-can-frame-spec =
@@ -36,7 +36,7 @@ heard-can-frame-spec =
     mark-of-requires
     with-mark-requires
     with-probe-requires
-    leave-requires
+    quiet-requires
     returns
-    leave-requires-2
+    leave-requires
     returns-2)

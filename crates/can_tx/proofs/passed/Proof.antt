@@ -20,14 +20,14 @@ with-window-requires c κs = tt
 with-probe-requires : tie.Need-with-probe-requires
 with-probe-requires c κs = tt
 
-leave-requires-2 : tie.Need-leave-requires-2
-leave-requires-2 c κs = tt
+quiet-requires : tie.Need-quiet-requires
+quiet-requires c κs = tt
 
 returns : tie.Need-returns
 returns c = rw (c .leave .ensures, c .before .enum-told .given .1)
 
 returns-2 : tie.Need-returns-2
-returns-2 c = rw (c .leave2 .ensures, c .before .with-probe .ensures, c .before .before .with-window .ensures, c .before .before .before .marked-sent .ensures, c .before .before .before .before .before .before .before .found .given .1)
+returns-2 c = rw (c .quiet .ensures, c .before .with-probe .ensures, c .before .before .with-window .ensures, c .before .before .before .marked-sent .ensures, c .before .before .before .before .before .before .before .found .given .1)
 
 pub passed-spec : {M : Type 1} → statement M
 passed-spec =
@@ -39,6 +39,6 @@ passed-spec =
     marked-sent-requires
     with-window-requires
     with-probe-requires
-    leave-requires-2
+    quiet-requires
     returns
     returns-2)

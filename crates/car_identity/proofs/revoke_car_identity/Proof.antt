@@ -17,12 +17,12 @@ with-identity-requires c κs = tt
 with-buses-requires : tie.Need-with-buses-requires
 with-buses-requires c κs = tt
 
-changed-requires : tie.Need-changed-requires
-changed-requires c κs = tt
+policy-changed-requires : tie.Need-policy-changed-requires
+policy-changed-requires c κs = tt
 
 returns : tie.Need-returns
 unfolding revokePlatform
-returns c = rw (c .changed .ensures, c .before .with-buses .ensures, c .before .before .before .with-identity .ensures, c .before .before .before .before .before .no-car .ensures, c .before .before .before .before .before .before .before .with-probe .ensures, c .before .before .before .before .before .before .before .before .relocked .ensures)
+returns c = rw (c .policy-changed .ensures, c .before .with-buses .ensures, c .before .before .before .with-identity .ensures, c .before .before .before .before .before .no-car .ensures, c .before .before .before .before .before .before .before .with-probe .ensures, c .before .before .before .before .before .before .before .before .relocked .ensures)
 
 pub revoke-car-identity-spec : {M : Type 1} → statement M
 revoke-car-identity-spec =
@@ -33,5 +33,5 @@ revoke-car-identity-spec =
     no-car-requires
     with-identity-requires
     with-buses-requires
-    changed-requires
+    policy-changed-requires
     returns)

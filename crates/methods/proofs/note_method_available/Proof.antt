@@ -13,19 +13,19 @@ noted-requires c κs = place-below _ _ (sym (c .before .before .is-place .ensure
 with-methods-requires : tie.Need-with-methods-requires
 with-methods-requires c κs = tt
 
-leave-requires : tie.Need-leave-requires
-leave-requires c κs = tt
+quiet-requires : tie.Need-quiet-requires
+quiet-requires c κs = tt
 
 returns : tie.Need-returns
 unfolding noteAvailable
-returns c = rw (c .leave .ensures, c .before .with-methods .ensures, c .before .before .noted .ensures, ← c .before .before .before .before .before .is-place .ensures, c .before .before .before .before .if1 .taken)
+returns c = rw (c .quiet .ensures, c .before .with-methods .ensures, c .before .before .noted .ensures, ← c .before .before .before .before .before .is-place .ensures, c .before .before .before .before .if1 .taken)
 
-leave-requires-2 : tie.Need-leave-requires-2
-leave-requires-2 c κs = tt
+leave-requires : tie.Need-leave-requires
+leave-requires c κs = tt
 
 returns-2 : tie.Need-returns-2
 unfolding noteAvailable
-returns-2 c = rw (c .leave2 .ensures, ← c .before .before .is-place .ensures, c .before .if1 .left)
+returns-2 c = rw (c .leave .ensures, ← c .before .before .is-place .ensures, c .before .if1 .left)
 
 pub note-method-available-spec : {M : Type 1} → statement M
 note-method-available-spec =
@@ -34,7 +34,7 @@ note-method-available-spec =
     is-place-requires
     noted-requires
     with-methods-requires
-    leave-requires
+    quiet-requires
     returns
-    leave-requires-2
+    leave-requires
     returns-2)

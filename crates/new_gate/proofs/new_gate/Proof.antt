@@ -2,11 +2,11 @@ use Rattle.new_gate.specs.New.{newGate}
 use Rattle.new_gate.proofs.new_gate.Statement.{statement}
 use Rattle.new_gate.proofs.new_gate.Tie as tie
 
-new-methods-requires : tie.Need-new-methods-requires
-new-methods-requires c κs = tt
-
 fits-requires : tie.Need-fits-requires
 fits-requires c κs = tt
+
+new-methods-requires : tie.Need-new-methods-requires
+new-methods-requires c κs = tt
 
 new-core-requires : tie.Need-new-core-requires
 new-core-requires c κs = tt
@@ -16,21 +16,21 @@ made-gate-requires c κs = tt
 
 returns : tie.Need-returns
 unfolding newGate
-returns c = rw (c .made-gate .ensures, c .before .new-core .ensures, ← c .before .before .before .before .new-methods .ensures, ← c .before .before .before .fits2 .ensures, c .before .before .if1 .taken)
+returns c = rw (c .made-gate .ensures, c .before .new-core .ensures, c .before .before .new-methods .ensures, ← c .before .before .before .before .fits2 .ensures, c .before .before .before .if1 .taken)
 
 least-gate-requires : tie.Need-least-gate-requires
 least-gate-requires c κs = tt
 
 returns-2 : tie.Need-returns-2
 unfolding newGate
-returns-2 c = rw (c .least-gate .ensures, ← c .before .before .before .new-methods .ensures, ← c .before .before .fits2 .ensures, c .before .if1 .left)
+returns-2 c = rw (c .least-gate .ensures, ← c .before .before .fits2 .ensures, c .before .if1 .left)
 
 pub new-gate-spec : {M : Type 1} → statement M
 new-gate-spec =
     tie.close
     (tie.spec
-    new-methods-requires
     fits-requires
+    new-methods-requires
     new-core-requires
     made-gate-requires
     returns

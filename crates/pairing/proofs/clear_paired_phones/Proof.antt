@@ -28,12 +28,12 @@ returns c = rw (c .stored .ensures, c .before .before .before .no-validations .e
 with-validations-requires : tie.Need-with-validations-requires
 with-validations-requires c κs = tt
 
-leave-requires : tie.Need-leave-requires
-leave-requires c κs = tt
+quiet-requires : tie.Need-quiet-requires
+quiet-requires c κs = tt
 
 returns-2 : tie.Need-returns-2
 unfolding clear
-returns-2 c = rw (c .leave .ensures, c .before .with-validations .ensures, c .before .before .before .before .no-validations .ensures, c .before .before .before .before .before .with-paired .ensures, c .before .before .before .before .before .before .empty-list .ensures, c .before .before .before .before .before .before .before .before .count .ensures, ← c .before .before .before .count2 .ensures, le-ltb _ _ (c .before .before .if1 .left))
+returns-2 c = rw (c .quiet .ensures, c .before .with-validations .ensures, c .before .before .before .before .no-validations .ensures, c .before .before .before .before .before .with-paired .ensures, c .before .before .before .before .before .before .empty-list .ensures, c .before .before .before .before .before .before .before .before .count .ensures, ← c .before .before .before .count2 .ensures, le-ltb _ _ (c .before .before .if1 .left))
 
 pub clear-paired-phones-spec : {M : Type 1} → statement M
 clear-paired-phones-spec =
@@ -47,5 +47,5 @@ clear-paired-phones-spec =
     stored-requires
     returns
     with-validations-requires
-    leave-requires
+    quiet-requires
     returns-2)

@@ -33,8 +33,8 @@ mul-f c = omega arith
 array-copy-out-f : tie.Need-array-copy-out-f Inv-loop μ-loop
 array-copy-out-f c = omega arith
 
-id-in-range-requires : tie.Need-id-in-range-requires Inv-loop μ-loop
-id-in-range-requires c κs = tt
+can-id-in-range-requires : tie.Need-can-id-in-range-requires Inv-loop μ-loop
+can-id-in-range-requires c κs = tt
 
 add-i : tie.Need-add-i Inv-loop μ-loop
 add-i c = omega arith
@@ -45,12 +45,12 @@ loop-less c = omega arith
 loop-again : tie.Need-loop-again Inv-loop μ-loop
 loop-again c =
     let loop = c .before .before .before .before .before .loop in
-    (omega arith, loop .inv .1, ids-again (c .before .before .before .before .before .before .args .t1) (c .before .before .before .before .before .before .args .count) _ (loop .i) (loop .inv .1) (omega arith) (omega arith) (loop .inv .2) (sym (c .before .id-in-range .ensures) ∙ c .if2 .taken))
+    (omega arith, loop .inv .1, ids-again (c .before .before .before .before .before .before .args .t1) (c .before .before .before .before .before .before .args .count) _ (loop .i) (loop .inv .1) (omega arith) (omega arith) (loop .inv .2) (sym (c .before .can-id-in-range .ensures) ∙ c .if2 .taken))
 
 returns-2 : tie.Need-returns-2 Inv-loop μ-loop
 returns-2 c =
     let loop = c .before .before .before .before .before .loop in
-    ids-failed (c .before .before .before .before .before .before .args .t1) (c .before .before .before .before .before .before .args .count) _ (loop .i) (loop .inv .1) (omega arith) (omega arith) (loop .inv .2) (sym (c .before .id-in-range .ensures) ∙ c .if2 .left)
+    ids-failed (c .before .before .before .before .before .before .args .t1) (c .before .before .before .before .before .before .args .count) _ (loop .i) (loop .inv .1) (omega arith) (omega arith) (loop .inv .2) (sym (c .before .can-id-in-range .ensures) ∙ c .if2 .left)
 
 returns-3 : tie.Need-returns-3 Inv-loop μ-loop
 returns-3 c =
@@ -68,7 +68,7 @@ ids-in-range-spec =
     returns
     mul-f
     array-copy-out-f
-    id-in-range-requires
+    can-id-in-range-requires
     add-i
     loop-less
     loop-again

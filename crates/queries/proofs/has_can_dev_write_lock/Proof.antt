@@ -6,12 +6,12 @@ use Rattle.queries.proofs.has_can_dev_write_lock.Tie as tie
 has-can-dev-write-lock-requires : tie.Need-has-can-dev-write-lock-requires
 has-can-dev-write-lock-requires c κs = tt
 
-told-requires : tie.Need-told-requires
-told-requires c κs = tt
+answer-yes-no-requires : tie.Need-answer-yes-no-requires
+answer-yes-no-requires c κs = tt
 
 returns : tie.Need-returns
 unfolding step answerTo
-returns c = rw (c .told .ensures, c .before .has-can-dev-write-lock .ensures)
+returns c = rw (c .answer-yes-no .ensures, c .before .has-can-dev-write-lock .ensures)
 
 pub has-can-dev-write-lock-spec : {M : Type 1} → statement M
-has-can-dev-write-lock-spec = tie.close (tie.spec has-can-dev-write-lock-requires told-requires returns)
+has-can-dev-write-lock-spec = tie.close (tie.spec has-can-dev-write-lock-requires answer-yes-no-requires returns)

@@ -6,12 +6,12 @@ use Rattle.queries.proofs.is_can_read_only.Tie as tie
 is-can-read-only-requires : tie.Need-is-can-read-only-requires
 is-can-read-only-requires c κs = tt
 
-told-requires : tie.Need-told-requires
-told-requires c κs = tt
+answer-yes-no-requires : tie.Need-answer-yes-no-requires
+answer-yes-no-requires c κs = tt
 
 returns : tie.Need-returns
 unfolding step answerTo
-returns c = rw (c .told .ensures, c .before .is-can-read-only .ensures)
+returns c = rw (c .answer-yes-no .ensures, c .before .is-can-read-only .ensures)
 
 pub is-can-read-only-spec : {M : Type 1} → statement M
-is-can-read-only-spec = tie.close (tie.spec is-can-read-only-requires told-requires returns)
+is-can-read-only-spec = tie.close (tie.spec is-can-read-only-requires answer-yes-no-requires returns)

@@ -11,11 +11,11 @@ count-requires : tie.Need-count-requires
 count-requires c κs = tt
 
 returns : tie.Need-returns
-unfolding step answerTo Answers.told
+unfolding step answerTo Answers.ifInRange
 returns c = rw (c .count .ensures, ← c .before .before .before .in-range .ensures, c .before .before .if1 .taken)
 
 returns-2 : tie.Need-returns-2
-unfolding step answerTo Answers.told
+unfolding step answerTo Answers.ifInRange
 returns-2 c = rw (← c .before .in-range .ensures, c .if1 .left)
 
 pub paired-phone-count-spec : {M : Type 1} → statement M

@@ -8,11 +8,11 @@ in-range-requires : tie.Need-in-range-requires
 in-range-requires c κs = tt
 
 returns : tie.Need-returns
-unfolding step answerTo Answers.told
+unfolding step answerTo Answers.ifInRange
 returns c = rw (← c .before .in-range .ensures, c .if1 .taken)
 
 returns-2 : tie.Need-returns-2
-unfolding step answerTo Answers.told
+unfolding step answerTo Answers.ifInRange
 returns-2 c = rw (← c .before .in-range .ensures, c .if1 .left)
 
 pub platform-id-spec : {M : Type 1} → statement M

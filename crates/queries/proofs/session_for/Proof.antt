@@ -11,11 +11,11 @@ session-shown-requires : tie.Need-session-shown-requires
 session-shown-requires c κs = tt
 
 returns : tie.Need-returns
-unfolding step answerTo Answers.told
+unfolding step answerTo Answers.ifInRange
 returns c = rw (c .session-shown .ensures, ← c .before .before .in-range .ensures, c .before .if1 .taken)
 
 returns-2 : tie.Need-returns-2
-unfolding step answerTo Answers.told
+unfolding step answerTo Answers.ifInRange
 returns-2 c = rw (← c .before .in-range .ensures, c .if1 .left)
 
 pub session-for-spec : {M : Type 1} → statement M

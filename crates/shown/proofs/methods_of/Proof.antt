@@ -1,3 +1,4 @@
+use Rattle.shown.proofs.Laws.{used-count}
 use Rattle.shown.proofs.methods_of.Statement.{statement}
 use Rattle.shown.proofs.methods_of.Tie as tie
 
@@ -11,7 +12,7 @@ count-used-requires : tie.Need-count-used-requires
 count-used-requires c κs = tt
 
 returns : tie.Need-returns
-returns c = rw (c .count-used .ensures, c .before .can-start-each .ensures, c .before .before .used-methods .ensures)
+returns c = rw (used-count, c .count-used .ensures, c .before .can-start-each .ensures, c .before .before .used-methods .ensures)
 
 pub methods-of-spec : {M : Type 1} → statement M
 methods-of-spec = tie.close (tie.spec used-methods-requires can-start-each-requires count-used-requires returns)

@@ -1,4 +1,5 @@
-use Rattle.validation.specs.Calls.{start, startAt, startChecks, checked}
+use Rattle.state.specs.Checks.{checked}
+use Rattle.validation.specs.Calls.{start, startAt, startChecks}
 use borrow.Author.Tests.{lt-ltb}
 use borrow.Author.Needs.{needs}
 use Rattle.start.proofs.start_validation.Statement.{statement}

@@ -1,4 +1,5 @@
-use Rattle.validation.specs.Calls.{startAt, startChecks, checked}
+use Rattle.state.specs.Checks.{checked}
+use Rattle.validation.specs.Calls.{startAt, startChecks}
 use borrow.Author.Tests.{lt-ltb, le-ltb, le-leb, lt-leb}
 use denote.Ref.{now}
 use Rattle.start.proofs.Laws.{taken-as}

@@ -6,8 +6,8 @@ use Rattle.submit.proofs.judge_as.Tie as tie
 enum-told : tie.Need-enum-told
 enum-told c = search needs
 
-told-requires : tie.Need-told-requires
-told-requires c κs = tt
+notified-requires : tie.Need-notified-requires
+notified-requires c κs = tt
 
 enum-told-2 : tie.Need-enum-told-2
 enum-told-2 c = search needs
@@ -24,7 +24,7 @@ wrong-requires c κs = tt
 
 returns-2 : tie.Need-returns-2
 unfolding judge
-returns-2 c = rw (c .told .ensures, c .before .enum-told .given .1)
+returns-2 c = rw (c .notified .ensures, c .before .enum-told .given .1)
 
 returns-3 : tie.Need-returns-3
 unfolding judge
@@ -35,7 +35,7 @@ judge-as-spec =
     tie.close
     (tie.spec
     enum-told
-    told-requires
+    notified-requires
     enum-told-2
     right-code-requires
     returns

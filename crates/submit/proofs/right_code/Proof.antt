@@ -5,12 +5,12 @@ use Rattle.submit.proofs.right_code.Tie as tie
 full-for-requires : tie.Need-full-for-requires
 full-for-requires c κs = tt
 
-told-requires : tie.Need-told-requires
-told-requires c κs = tt
+notified-requires : tie.Need-notified-requires
+notified-requires c κs = tt
 
 returns : tie.Need-returns
 unfolding rightCode succeed
-returns c = rw (c .told .ensures, ← c .before .before .full-for .ensures, c .before .if1 .taken)
+returns c = rw (c .notified .ensures, ← c .before .before .full-for .ensures, c .before .if1 .taken)
 
 succeeded-core-requires : tie.Need-succeeded-core-requires
 succeeded-core-requires c κs = tt
@@ -30,7 +30,7 @@ right-code-spec =
     tie.close
     (tie.spec
     full-for-requires
-    told-requires
+    notified-requires
     returns
     succeeded-core-requires
     reply-of-requires

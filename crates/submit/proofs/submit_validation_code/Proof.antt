@@ -1,3 +1,4 @@
+use Rattle.state.specs.Checks.{checked}
 use Rattle.validation.specs.Calls.{submit}
 use borrow.Author.Needs.{needs}
 use Rattle.submit.proofs.submit_validation_code.Statement.{statement}
@@ -19,18 +20,18 @@ end-session-requires : tie.Need-end-session-requires
 end-session-requires c κs = tt
 
 returns : tie.Need-returns
-unfolding submit
+unfolding submit checked
 returns c = rw (c .submitted .ensures, c .before .before .before .before .if1 .taken, ← c .before .before .before .lapse-of .ensures, c .before .enum-told .given .1)
 
 returns-2 : tie.Need-returns-2
-unfolding submit
+unfolding submit checked
 returns-2 c = rw (c .end-session .ensures, c .before .before .before .before .before .if1 .taken, ← c .before .before .before .before .lapse-of .ensures, c .before .before .lapse .given .1)
 
 leave-requires : tie.Need-leave-requires
 leave-requires c κs = tt
 
 returns-3 : tie.Need-returns-3
-unfolding submit
+unfolding submit checked
 returns-3 c = rw (c .leave .ensures, c .before .if1 .left)
 
 pub submit-validation-code-spec : {M : Type 1} → statement M

@@ -15,12 +15,12 @@ returns : tie.Need-returns
 unfolding submitted
 returns c = rw (c .judge-as .ensures, c .before .method-at .ensures, ← c .before .before .before .before .runs-for .ensures, c .before .before .before .if1 .taken)
 
-told-requires : tie.Need-told-requires
-told-requires c κs = tt
+notified-requires : tie.Need-notified-requires
+notified-requires c κs = tt
 
 returns-2 : tie.Need-returns-2
 unfolding submitted
-returns-2 c = rw (c .told .ensures, ← c .before .before .runs-for .ensures, c .before .if1 .left)
+returns-2 c = rw (c .notified .ensures, ← c .before .before .runs-for .ensures, c .before .if1 .left)
 
 pub submitted-spec : {M : Type 1} → statement M
 submitted-spec =
@@ -30,5 +30,5 @@ submitted-spec =
     method-at-requires
     judge-as-requires
     returns
-    told-requires
+    notified-requires
     returns-2)

@@ -12,12 +12,12 @@ with-session-requires c κs = tt
 wrong-answer-requires : tie.Need-wrong-answer-requires
 wrong-answer-requires c κs = tt
 
-told-requires : tie.Need-told-requires
-told-requires c κs = tt
+notified-requires : tie.Need-notified-requires
+notified-requires c κs = tt
 
 returns : tie.Need-returns
 unfolding wrong triedCore
-returns c = rw (c .told .ensures, c .before .wrong-answer .ensures, c .before .before .with-session .ensures, c .before .before .before .tried-once .ensures, lt-ltb _ _ (c .before .before .before .before .if1 .taken))
+returns c = rw (c .notified .ensures, c .before .wrong-answer .ensures, c .before .before .with-session .ensures, c .before .before .before .tried-once .ensures, lt-ltb _ _ (c .before .before .before .before .if1 .taken))
 
 failed-core-requires : tie.Need-failed-core-requires
 failed-core-requires c κs = tt
@@ -45,7 +45,7 @@ wrong-spec =
     tried-once-requires
     with-session-requires
     wrong-answer-requires
-    told-requires
+    notified-requires
     returns
     failed-core-requires
     wrong-answer-requires-2

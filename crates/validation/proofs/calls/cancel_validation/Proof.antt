@@ -1,3 +1,4 @@
+use Rattle.state.specs.Checks.{checked}
 use Rattle.validation.specs.Calls.{cancel}
 use Rattle.validation.proofs.calls.cancel_validation.Statement.{statement}
 use Rattle.validation.proofs.calls.cancel_validation.Tie as tie
@@ -9,14 +10,14 @@ end-session-requires : tie.Need-end-session-requires
 end-session-requires c κs = tt
 
 returns : tie.Need-returns
-unfolding cancel
+unfolding cancel checked
 returns c = rw (c .end-session .ensures, ← c .before .before .runs-for .ensures, c .before .if1 .taken)
 
 leave-requires : tie.Need-leave-requires
 leave-requires c κs = tt
 
 returns-2 : tie.Need-returns-2
-unfolding cancel
+unfolding cancel checked
 returns-2 c = rw (c .leave .ensures, ← c .before .before .runs-for .ensures, c .before .if1 .left)
 
 pub cancel-validation-spec : {M : Type 1} → statement M

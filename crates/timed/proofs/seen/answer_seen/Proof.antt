@@ -1,5 +1,5 @@
-use Rattle.timed.proofs.seen.told.Statement.{statement}
-use Rattle.timed.proofs.seen.told.Tie as tie
+use Rattle.timed.proofs.seen.answer_seen.Statement.{statement}
+use Rattle.timed.proofs.seen.answer_seen.Tie as tie
 
 enum-told : tie.Need-enum-told
 enum-told c = c .match .keys1
@@ -211,8 +211,8 @@ returns-32 c = rw (c .enum-told30 .given .1)
 returns-33 : tie.Need-returns-33
 returns-33 c = rw (c .enum-told31 .given .1)
 
-pub told-spec : {M : Type 1} → statement M
-told-spec =
+pub answer-seen-spec : {M : Type 1} → statement M
+answer-seen-spec =
     tie.close
     (tie.spec
     enum-told
