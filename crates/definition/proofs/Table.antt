@@ -30,6 +30,7 @@ use Rattle.state.specs.declared.Answer.the-variants as Answer
 use Rattle.state.specs.declared.Answer.the-variants.{Done}
 use Rattle.state.specs.Answers.{number}
 use Rattle.state.specs.Running as Running
+use Rattle.state.specs.Checks as Checks
 use Rattle.range.specs.Range as Range
 use Rattle.state.specs.Replies as Replies
 use Rattle.policy.specs.Policy as Policy
@@ -214,11 +215,11 @@ unfolding decodedBody decoded refusal restored
 openLeaves5 = tt
 
 unfoldable openState1 : Unit {0}
-unfolding Range.within Range.settingsFit Range.allOf Range.printable Range.methodFits Range.allFit Range.methodsFit
+unfolding Range.within Range.settingsFit Range.allOf Range.printable Range.methodFits Range.allFit Range.methodsIn Range.methodsFit
 openState1 = tt
 
 unfoldable openState2 : Unit {0}
-unfolding Running.methodAt Running.inProgress Running.codeInProgress Range.triesFit Range.sessionFits Range.windowFits
+unfolding Running.methodAt Running.cleanMethod Running.inProgress Running.codeInProgress Range.triesFit Range.sessionFits Range.windowFits
 openState2 = tt
 
 unfoldable openState3 : Unit {0}
@@ -230,7 +231,7 @@ unfolding Replies.approvalChanged Replies.approvalCleared Replies.storeValidatio
 openState4 = tt
 
 unfoldable openState5 : Unit {0}
-unfolding Replies.leave Replies.reply Replies.finish Range.served Replies.fill
+unfolding Replies.leave Replies.quiet Replies.reply Replies.finish Range.served Replies.fill
 openState5 = tt
 
 unfoldable openAccess1 : Unit {0}
@@ -294,7 +295,7 @@ unfolding Session.isOf Session.lostReadWrite Session.noteAt Session.cannotGoOn S
 openSessions2 = tt
 
 unfoldable openSessions3 : Unit {0}
-unfolding Session.placeOf Times.nextNumber Validation.checked Validation.clear Validation.endSession Validation.tick
+unfolding Session.placeOf Times.nextNumber Checks.checked Checks.unmet Validation.endSession Validation.tick
 openSessions3 = tt
 
 unfoldable openSessions4 : Unit {0}

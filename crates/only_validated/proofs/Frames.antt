@@ -18,7 +18,8 @@ use Rattle.state.specs.declared.Core.{Core}
 use Rattle.state.specs.declared.Gate.{Gate}
 use Rattle.state.specs.declared.Answer.the-variants.{Yes, No, BadFrame, BadSettings}
 use Rattle.state.specs.declared.Said.{Said}
-use Rattle.state.specs.Replies.{leave, fill}
+use Rattle.state.specs.Replies.{leave, quiet, fill}
+use Rattle.state.specs.Checks.{checked}
 use Rattle.range.specs.Range.{inRange, served}
 use Rattle.policy.specs.Policy.{fingerprintConfirmed, isIdentified, isBusReadOnly}
 use Rattle.policy_changes.specs.Changes.{yesNo}
@@ -36,7 +37,7 @@ use Rattle.only_validated.proofs.Stores.{untrue}
 
 module _ (c : Core) where
   -- the gate and the frame's id are in range, and the class says yes
-  sound-yes : (r i : Bool) (o : Said) → plain (cond r (cond i o (leave c BadFrame)) (leave c BadSettings) .answer) ≡ plain Yes
+  sound-yes : (r i : Bool) (o : Said) → plain (cond r (cond (not i) (leave c BadFrame) o) (leave c BadSettings) .answer) ≡ plain Yes
       → (r ≡ true) × (i ≡ true) × (plain (o .answer) ≡ plain Yes)
   unfolding leave
   sound-yes true true o e = (refl, refl, e)
@@ -77,7 +78,7 @@ is-named (x ∷ xs) e = ne-eqb (length (x ∷ xs)) 0 (λ (z : length (x ∷ xs) 
 
 module _ (g : Gate) (bus : ℕ) (frame : CanFrame) (owner : List ℕ) (clock : ℕ) where
   command-needs : Allowed g bus frame Command owner clock → MayCommand g bus frame owner
-  unfolding step changed fill served allow leave allowsCommand isValidated ofThisCar isIdentified listed
+  unfolding step changed fill served allow checked leave allowsCommand isValidated ofThisCar isIdentified listed
   command-needs e =
       let c = g .core in
       let s = sound-yes c (inRange c) (canIdInRange (frame .id)) _ e in
@@ -93,7 +94,7 @@ module _ (g : Gate) (bus : ℕ) (frame : CanFrame) (owner : List ℕ) (clock : �
       }
 
   needs-command : MayCommand g bus frame owner → Allowed g bus frame Command owner clock
-  unfolding step changed fill served allow leave allowsCommand isValidated ofThisCar isIdentified listed
+  unfolding step changed fill served allow checked leave allowsCommand isValidated ofThisCar isIdentified listed
   needs-command m =
       let l = and-eq-true-iff (sameBytes (g .core .validations .car) (carNow g)) (contains owner (phonesOf (g .core .validations .phones))) .0 (m .validated) in
       rw (m .sound .0, m .sound .1, eq-eqb _ _ (m .forBus), m .readWrite, m .identified, same-sym _ _ (l .0), is-named owner (m .named), m .paired, l .1)
@@ -106,7 +107,7 @@ module _ (g : Gate) (bus : ℕ) (frame : CanFrame) (owner : List ℕ) (clock : �
 module _ (g : Gate) (bus : ℕ) (frame : CanFrame) (owner : List ℕ) (clock : ℕ) where
   window-needs : (a b w : Bool) (u : Unsent) → eqb (frame .bus) bus ≡ a → eqb (frame .dlc) 8 ≡ b → isOpen (g .core .policy) (g .core .probe) bus clock ≡ w
       → unsentIn (g .core .probe .window) frame ≡ u → plain (cond (a && b && w) (passed (g .core) u) (leave (g .core) No) .answer) ≡ plain Yes → MaySend g bus frame clock
-  unfolding leave
+  unfolding leave quiet
   window-needs true true true (At i) a b w u e = inWindow i (eqb-true (frame .bus) bus a) (eqb-true (frame .dlc) 8 b) w u
   window-needs true true true Nothing a b w u e = untrue cc
   window-needs true true false n a b w u e = untrue cc
@@ -114,7 +115,7 @@ module _ (g : Gate) (bus : ℕ) (frame : CanFrame) (owner : List ℕ) (clock : �
   window-needs false y x n a b w u e = untrue cc
 
   platform-needs : Allowed g bus frame Platform owner clock → Sound g frame × MaySend g bus frame clock
-  unfolding step changed fill served allow leave allowPlatform throughWindow
+  unfolding step changed fill served allow checked leave allowPlatform throughWindow
   platform-needs e = let s = sound-yes (g .core) (inRange (g .core)) (canIdInRange (frame .id)) _ e in ((s .0, s .1), go (isBusReadOnly (g .core .policy) bus) refl (s .2))
     where
       go : (r : Bool) → isBusReadOnly (g .core .policy) bus ≡ r → plain (cond r (throughWindow (g .core) bus frame clock) (leave (g .core) Yes) .answer) ≡ plain Yes
@@ -123,7 +124,7 @@ module _ (g : Gate) (bus : ℕ) (frame : CanFrame) (owner : List ℕ) (clock : �
       go true r e = window-needs (eqb (frame .bus) bus) (eqb (frame .dlc) 8) (isOpen (g .core .policy) (g .core .probe) bus clock) (unsentIn (g .core .probe .window) frame) refl refl refl refl e
 
   needs-platform : Sound g frame × MaySend g bus frame clock → Allowed g bus frame Platform owner clock
-  unfolding step changed fill served allow leave allowPlatform throughWindow
+  unfolding step changed fill served allow checked leave quiet allowPlatform throughWindow
   needs-platform (s, readWrite r) = rw (s .0, s .1, r)
   needs-platform (s, inWindow i b d w u) = rw (s .0, s .1, eq-eqb _ _ b, eq-eqb _ _ d, w, u) (go (isBusReadOnly (g .core .policy) bus))
     where

@@ -30,8 +30,9 @@ use Rattle.state.specs.declared.Mark.{Mark}
 use Rattle.state.specs.declared.Said.{Said}
 use Rattle.state.specs.Running.{isCode, inProgress, methodAt}
 use Rattle.state.specs.Parts.{withPaired}
-use Rattle.state.specs.Replies.{leave, reply, finish, fill}
-use Rattle.range.specs.Range.{inRange, served, settingsFit, methodsFit}
+use Rattle.state.specs.Replies.{leave, quiet, reply, finish, fill}
+use Rattle.state.specs.Checks.{Check, checked}
+use Rattle.range.specs.Range.{inRange, served, settingsFit, methodsIn}
 use Rattle.policy.specs.Policy.{isIdentified}
 use Rattle.can_access.specs.Approval as Access
 use Rattle.dev_lock.specs.DevLock as DevLock
@@ -50,7 +51,6 @@ use Rattle.session.specs.declared.Lapse.the-variants.{Stays, Ends}
 use Rattle.session.specs.Session.{isOf, lostReadWrite, noteAt, cannotGoOn, lapseOf, placeOf}
 use Rattle.validation.specs.Calls as Validation
 use Rattle.methods.specs.Notes as Methods
-use Rattle.validation.specs.Calls.{Check}
 use Rattle.new_gate.specs.New.{newMethods, newCore, leastSettings, madeGate, newGate}
 use Rattle.definition.specs.Gate.{Change, Call, isLent, changed, step}
 use Rattle.definition.specs.Gate as Gate
@@ -62,9 +62,13 @@ use Rattle.only_validated.proofs.Stores.{untrue, unlisted, Less, less-s
 pub record Keeps (c : Core) (o : Said) : Type 0 where
   pub less : Less (o .core .validations) (c .validations)
 
-keep-leave : (c c′ : Core) (a : Answer) → Less (c′ .validations) (c .validations) → Keeps c (leave c′ a)
+keep-leave : (c : Core) (a : Answer) → Keeps c (leave c a)
 unfolding leave
-keep-leave c c′ a l = record { less = l }
+keep-leave c a = record { less = less-same _ }
+
+keep-quiet : (c c′ : Core) (a : Answer) → Less (c′ .validations) (c .validations) → Keeps c (quiet c′ a)
+unfolding quiet
+keep-quiet c c′ a l = record { less = l }
 
 keep-reply : (c c′ : Core) (a : Answer) (s : Signals) → Less (c′ .validations) (c .validations) → Keeps c (reply c′ a s)
 unfolding reply
@@ -78,7 +82,12 @@ keep-cond : (c : Core) (b : Bool) (o o′ : Said) → Keeps c o → Keeps c o′
 keep-cond c true o o′ k k′ = k
 keep-cond c false o o′ k k′ = k′
 
-ruleset keeping = (keep-cond, keep-leave, keep-reply, keep-finish, less-same, less-none)
+keep-checked : (c : Core) (ks : List Check) (o : Said) → Keeps c o → Keeps c (checked c ks o)
+unfolding checked
+keep-checked c [] o h = h
+keep-checked c (k ∷ ks) o h = keep-cond c (k .meets) _ _ (keep-leave c _) (keep-checked c ks o h)
+
+ruleset keeping = (keep-cond, keep-leave, keep-quiet, keep-reply, keep-finish, keep-checked, less-same, less-none)
 
 -- the phone's id goes, or those that are not paired go
 keep-forgetting : (c : Core) (paired : PhoneList) (a : Answer) (id : List ℕ) → Keeps c (Store.forgetting (withPaired c paired) a id)
@@ -107,11 +116,6 @@ keep-locked : (c : Core) (enabled : Bool) → Keeps c (Can.setReadOnly c enabled
 unfolding Can.setReadOnly Changes.policyChanged
 keep-locked c true = search keeping
 keep-locked c false = search keeping
-
-keep-checked : (c : Core) (ks : List Check) (o : Said) → Keeps c o → Keeps c (Validation.checked c ks o)
-unfolding Validation.checked
-keep-checked c [] o h = h
-keep-checked c (k ∷ ks) o h = keep-cond c (k .meets) _ _ (search keeping) (keep-checked c ks o h)
 
 keep-begin : (c : Core) (phone : List ℕ) (at clock : ℕ) (mark : Mark) → Keeps c (Validation.begin c phone at clock mark)
 unfolding Validation.begin
@@ -261,14 +265,14 @@ module _ (g : Gate) (phone typed : List ℕ) (clock : ℕ) where
           r)
 
   gain-submit : Gains (By g (Gate.submitValidationCode phone typed clock)) (g .core) (Validation.submit (g .core) phone clock (isText typed) (right (g .code) (g .core .settings .digits) typed))
-  unfolding Validation.submit Validation.submitted Trust.notified
+  unfolding Validation.submit Validation.submitted Trust.notified checked
   gain-submit =
-      gain-cond _ (g .core) (isText typed) _ _
+      gain-cond _ (g .core) (not (isText typed)) _ _
+      (λ x. kept _ (g .core) _ (search keeping))
       (λ x. gain-ticking _ (g .core) clock _ _
       (λ t. gain-cond _ (g .core) (Validation.runsFor (session g) phone) _ _
       (λ e. gain-judged (methodAt (g .core .methods) (session g .method) .kind) t e refl)
       (λ e. kept _ (g .core) _ (search keeping))))
-      (λ x. kept _ (g .core) _ (search keeping))
 
 -- ---- every change
 
@@ -312,7 +316,7 @@ module _ (g : Gate) where
 -- nobody is listed in a new gate
 pub new-none : (settings : Settings) (methods : List Method) (count : ℕ) (car phone : List ℕ) → NotListed (newGate settings methods count .gate) car phone
 unfolding newGate newCore
-new-none settings methods count car phone = go (settingsFit settings && methodsFit (newMethods methods count))
+new-none settings methods count car phone = go (settingsFit settings && methodsIn methods count)
   where
     go : (b : Bool)
         → NotListed (cond b (madeGate Done (newCore settings (newMethods methods count))) (madeGate BadSettings (newCore leastSettings (newMethods [] 0))) .gate) car phone

@@ -24,6 +24,7 @@ use Rattle.state.specs.declared.Answer.{Answer}
 use Rattle.state.specs.declared.Answer.the-variants as Answer
 use Rattle.state.specs.Parts.{withPolicy}
 use Rattle.state.specs.Running as Running
+use Rattle.state.specs.Checks.{checked}
 use Rattle.range.specs.Range as Range
 use Rattle.state.specs.Replies as Replies
 use Rattle.policy.specs.Policy as Policy
@@ -140,7 +141,7 @@ pub record Examples : Type 0 where
   pub tallied : sessions 3 0 ready three ≡ tallies
 
 pub examples : Examples
-unfolding padded put sameBytes allInRange contains idBytes idInRange idOf listInRange listOf phonesOf someOf kept appended madeId tooLong digits drawLimit drawn firstBelow group decode encode encodeAll Utf8.within isText right trim trimFront trimmed white encoded field fields recordOf Range.within Range.settingsFit Range.allOf Range.printable Range.methodFits Range.allFit Range.methodsFit Running.methodAt Running.inProgress Running.codeInProgress Range.triesFit Range.sessionFits Range.windowFits Range.phonesFit Range.inRange Replies.challengeChanged Replies.validated Replies.leave Replies.reply Replies.finish Range.served Replies.fill Policy.fingerprintConfirmed Policy.isIdentified Policy.isReadOnly Store.recordFor Trust.notified Store.isFull Store.validate Times.saturatingAdd Times.secondsTo Session.secondsOf Session.replyOf Session.endedAs Session.triedOnce Session.isOf Session.lostReadWrite Session.noteAt Session.cannotGoOn Session.lapseOf Session.placeFrom Session.placeOf Times.nextNumber Validation.checked Validation.endSession Validation.runsFor Validation.startChecks Validation.newSession Validation.challengeFor Validation.begin Validation.startAt Validation.start Validation.succeededCore Validation.succeed Validation.fullFor Validation.failedCore Validation.triedCore Validation.wrong Validation.rightCode Validation.judge Validation.submitted Validation.submit New.newMethods New.newCore step begins judgedWrong blanked hideGate codeRuns
+unfolding padded put sameBytes allInRange contains idBytes idInRange idOf listInRange listOf phonesOf someOf kept appended madeId tooLong digits drawLimit drawn firstBelow group decode encode encodeAll Utf8.within isText right trim trimFront trimmed white encoded field fields recordOf Range.within Range.settingsFit Range.allOf Range.printable Range.methodFits Range.allFit Range.methodsIn Range.methodsFit Running.methodAt Running.cleanMethod Running.inProgress Running.codeInProgress Range.triesFit Range.sessionFits Range.windowFits Range.phonesFit Range.inRange Replies.challengeChanged Replies.validated Replies.leave Replies.reply Replies.finish Range.served Replies.fill Policy.fingerprintConfirmed Policy.isIdentified Policy.isReadOnly Store.recordFor Trust.notified Store.isFull Store.validate Times.saturatingAdd Times.secondsTo Session.secondsOf Session.replyOf Session.endedAs Session.triedOnce Session.isOf Session.lostReadWrite Session.noteAt Session.cannotGoOn Session.lapseOf Session.placeFrom Session.placeOf Times.nextNumber checked Validation.endSession Validation.runsFor Validation.startChecks Validation.newSession Validation.challengeFor Validation.begin Validation.startAt Validation.start Validation.succeededCore Validation.succeed Validation.fullFor Validation.failedCore Validation.triedCore Validation.wrong Validation.rightCode Validation.judge Validation.submitted Validation.submit New.newMethods New.newCore step begins judgedWrong blanked hideGate codeRuns
 examples = record {
   two =
       next (starts phone method 1_000 random-1234 random-0007 (λ d. (refl, refl)))

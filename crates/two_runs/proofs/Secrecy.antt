@@ -17,6 +17,7 @@ use Rattle.state.specs.declared.Mark.{Mark}
 use Rattle.state.specs.declared.Mark.the-variants.{Blank, Kept, Fresh}
 use Rattle.state.specs.declared.Said.{Said}
 use Rattle.state.specs.Running.{isCode, inProgress, methodAt, codeInProgress}
+use Rattle.state.specs.Checks.{Check, checked, unmet}
 use Rattle.range.specs.Range.{inRange}
 use Rattle.state.specs.Replies.{noCode, noChallenge, noSignals, codeAt, leave, fill}
 use Rattle.range.specs.Range.{served}
@@ -24,7 +25,7 @@ use Rattle.phone_trust.specs.Trust.{notified}
 use Rattle.session.specs.declared.Lapse.{Lapse}
 use Rattle.session.specs.declared.Lapse.the-variants.{Stays, Ends}
 use Rattle.session.specs.Session.{isOf, lapseOf, placeOf}
-use Rattle.validation.specs.Calls.{Check, checked, clear, ticking, tick, runsFor, startChecks, startAs, startAt, start, draws, judgeAs, submitted, submit}
+use Rattle.validation.specs.Calls.{ticking, tick, runsFor, startChecks, startAs, startAt, start, draws, judgeAs, submitted, submit}
 use Rattle.answers.specs.declared.ChallengeAnswer.{ChallengeAnswer}
 use Rattle.answers.specs.Answers.{shownDigits, challengeOf, challengeAnswer}
 use Rattle.answers.specs.Query as Query
@@ -47,12 +48,12 @@ served-as c {o} {o′} e = go (inRange c) e
     go true e = e refl
     go false e = refl
 
-checked-as : (c : Core) (ks : List Check) {o o′ : Said} → (clear ks ≡ true → o ≡ o′) → checked c ks o ≡ checked c ks o′
-unfolding checked clear
+checked-as : (c : Core) (ks : List Check) {o o′ : Said} → (unmet ks ≡ true → o ≡ o′) → checked c ks o ≡ checked c ks o′
+unfolding checked unmet
 checked-as c [] e = e refl
 checked-as c (k ∷ ks) {o} {o′} e = go (k .meets) e (λ e. checked-as c ks e)
   where
-    go : (b : Bool) → ((not b && clear ks) ≡ true → o ≡ o′) → ((clear ks ≡ true → o ≡ o′) → checked c ks o ≡ checked c ks o′)
+    go : (b : Bool) → ((not b && unmet ks) ≡ true → o ≡ o′) → ((unmet ks ≡ true → o ≡ o′) → checked c ks o ≡ checked c ks o′)
         → cond b (leave c (k .answer)) (checked c ks o) ≡ cond b (leave c (k .answer)) (checked c ks o′)
     go true e r = refl
     go false e r = r e
@@ -92,7 +93,7 @@ submitted-by c phone clock {r} {r′} e = go (inProgress s) refl (methodAt (c .m
 
 submit-by : (c : Core) (phone : List ℕ) (clock : ℕ) (text : Bool) {r r′ : Bool} → (text ≡ true → codeRuns (tick c clock .core) ≡ true → r ≡ r′)
     → submit c phone clock text r ≡ submit c phone clock text r′
-unfolding submit tick leave
+unfolding submit checked tick leave
 submit-by c phone clock false e = refl
 submit-by c phone clock true {r} {r′} e = go (lapseOf c clock) (e refl)
   where
@@ -167,7 +168,7 @@ fit-served c o f = go (inRange c) f
   where
     go : (b : Bool) → (b ≡ true → Fit c o) → Fit c (cond b o (leave c BadSettings))
     go true f = f refl
-    go false f = turn-leave c c BadSettings refl refl refl .fit
+    go false f = turn-leave c BadSettings .fit
 
 module _ (g h : Gate) (e : EqualButDigits g h) where
   core-same : g .core ≡ h .core

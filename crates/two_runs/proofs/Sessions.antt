@@ -18,7 +18,8 @@ use Rattle.state.specs.Running.{isRunning, inProgress, codeInProgress, methodAt
 use Rattle.state.specs.Replies.{noChallenge, leave, reply, finish, challengeChanged}
 use Rattle.phone_trust.specs.Trust.{notified}
 use Rattle.session.specs.Session.{endedAs, triedOnce, isOf, placeOf}
-use Rattle.validation.specs.Calls.{Check, checked, endSession, runsFor, startChecks, newSession, challengeFor, begin, startAs, startAt, start, succeed, succeededCore, fullFor, failedCore, triedCore, wrong, wrongAnswer, rightCode, judge, judgeAs, submitted, submit}
+use Rattle.state.specs.Checks.{Check, checked}
+use Rattle.validation.specs.Calls.{endSession, runsFor, startChecks, newSession, challengeFor, begin, startAs, startAt, start, succeed, succeededCore, fullFor, failedCore, triedCore, wrong, wrongAnswer, rightCode, judge, judgeAs, submitted, submit}
 use Rattle.two_runs.specs.Demand.{codeRuns}
 use Rattle.two_runs.proofs.Turns.{Fit, Turn, triesLeft, turn-beside, turn-leave, turn-ends, ticking-as}
 
@@ -40,7 +41,7 @@ pub record Started (c : Core) (o : Said) : Type 0 where
 refused : (c : Core) (a : Answer) → Started c (leave c a)
 unfolding leave
 refused c a =
-    let t = turn-leave c c a refl refl refl in
+    let t = turn-leave c a in
     record { fit = t .fit; idle = λ e. t .paid }
 
 checked-as : (c : Core) (ks : List Check) (o : Said) → Started c o → Started c (checked c ks o)
@@ -132,7 +133,7 @@ module _ (c : Core) (low : codeRuns c ≡ true → 1 ≤ c .validation .session 
       go false p = notified-as c Answer.NoSession refl
 
   pub submitted-as : (phone : List ℕ) (text right : Bool) → Submitted c (submit c phone clock text right)
-  unfolding submit leave
+  unfolding submit checked leave
   submitted-as phone true right =
       ticking-as (λ o. Submitted c o) c clock Answer.NoSession _ (λ status e. ended-as c Answer.NoSession status clock refl e) (ticked-as phone right)
-  submitted-as phone false right = record { turn = turn-leave c c Answer.NotText refl refl refl }
+  submitted-as phone false right = record { turn = turn-leave c Answer.NotText }

@@ -16,7 +16,7 @@ use Rattle.state.specs.declared.Answer.the-variants.{Done, BadSettings}
 use Rattle.state.specs.declared.Said.{Said}
 use Rattle.state.specs.Answers.{number}
 use Rattle.state.specs.Running.{inProgress, codeInProgress}
-use Rattle.range.specs.Range.{settingsFit, methodsFit, inRange}
+use Rattle.range.specs.Range.{settingsFit, methodsIn, inRange}
 use Rattle.state.specs.Replies.{noCode, leave, fill}
 use Rattle.range.specs.Range.{served}
 use Rattle.validation.specs.Calls.{start, submit}
@@ -66,7 +66,7 @@ module _ (g : Gate) (drew : List ℕ) (o : Said) where
 -- a new gate has no session
 new-none : (g : Gate) (settings : Settings) (methods : List Method) (count : ℕ) → 0 + left (newGate settings methods count .gate) ≤ left g
 unfolding newGate newCore codeRuns codeInProgress inProgress
-new-none g settings methods count = none-more _ _ (go (settingsFit settings && methodsFit (newMethods methods count)))
+new-none g settings methods count = none-more _ _ (go (settingsFit settings && methodsIn methods count))
   where
     none : (b : Bool) → cond b 0 0 ≤ left g
     none true = zero-le

@@ -2,7 +2,7 @@
 -- costs one of the tries. Every change of the gate is gone through here once.
 use mathlib.Core.Path.{_≡_, refl, sym}
 use mathlib.Core.Bool.{Bool, true, false, cond, _&&_, true≢false}
-use mathlib.Core.List.{List}
+use mathlib.Core.List.{List, [], _∷_}
 use Prim.Native.Nat.{ℕ, _+_, _≤_, zero-le}
 use native.Mathlib.Omega.{arith}
 use borrow.Author.Tests.{ltb-false}
@@ -22,7 +22,8 @@ use Rattle.state.specs.declared.Mark.the-variants.{Blank, Kept, Fresh}
 use Rattle.state.specs.declared.Said.{Said}
 use Rattle.state.specs.Running.{isCode, isRunning, inProgress, codeInProgress, methodAt}
 use Rattle.range.specs.Range.{within, settingsFit, methodsFit, phonesFit, triesFit, sessionFits, inRange}
-use Rattle.state.specs.Replies.{leave, reply, finish}
+use Rattle.state.specs.Replies.{leave, quiet, reply, finish}
+use Rattle.state.specs.Checks.{Check, checked}
 use Rattle.can_access.specs.Approval as Access
 use Rattle.dev_lock.specs.DevLock as DevLock
 use Rattle.policy_changes.specs.Changes as Changes
@@ -130,10 +131,14 @@ turn-beside c c′ a s p l e =
     let r = runs-same c c′ l e in
     record { fit = record { settings = p; shows = tt; code = r }; paid = none-left c c′ r (λ i. e i .tries) }
 
-pub turn-leave : (c c′ : Core) (a : Answer) → c′ .settings ≡ c .settings → c′ .methods .list ≡ c .methods .list
-    → c′ .validation .session ≡ c .validation .session → Turn c 0 (leave c′ a)
+turn-quiet : (c c′ : Core) (a : Answer) → c′ .settings ≡ c .settings → c′ .methods .list ≡ c .methods .list
+    → c′ .validation .session ≡ c .validation .session → Turn c 0 (quiet c′ a)
+unfolding quiet reply
+turn-quiet c c′ a p l e = turn-beside c c′ a _ p l e
+
+pub turn-leave : (c : Core) (a : Answer) → Turn c 0 (leave c a)
 unfolding leave reply
-turn-leave c c′ a p l e = turn-beside c c′ a _ p l e
+turn-leave c a = turn-beside c c a _ refl refl refl
 
 pub turn-cond : (c : Core) (w : ℕ) (b : Bool) (o o′ : Said) → Turn c w o → Turn c w o′ → Turn c w (cond b o o′)
 turn-cond c w true o o′ t t′ = t
@@ -181,7 +186,12 @@ turn-succeed c a clock = turn-ends c _ 0 a _ refl refl zero-le
 
 -- ---- every call but start, submit, new and the queries
 
-ruleset turning = (turn-cond, turn-leave, turn-beside, turn-end, turn-succeed)
+turn-checked : (c : Core) (ks : List Check) (o : Said) → Turn c 0 o → Turn c 0 (checked c ks o)
+unfolding checked
+turn-checked c [] o t = t
+turn-checked c (k ∷ ks) o t = turn-cond c 0 (k .meets) _ _ (turn-leave c _) (turn-checked c ks o t)
+
+ruleset turning = (turn-cond, turn-leave, turn-quiet, turn-checked, turn-beside, turn-end, turn-succeed)
 
 turn-passed : (c : Core) (u : Unsent) → Turn c 0 (Tx.passed c u)
 turn-passed c Nothing = search turning

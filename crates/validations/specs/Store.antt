@@ -18,7 +18,7 @@ use Rattle.state.specs.declared.Answer.the-variants as Answer
 use Rattle.state.specs.declared.Answer.the-variants.{Done}
 use Rattle.state.specs.declared.Said.{Said}
 use Rattle.state.specs.Parts.{withValidations}
-use Rattle.state.specs.Replies.{phoneAccessChanged, storeValidations, leave, reply}
+use Rattle.state.specs.Replies.{phoneAccessChanged, storeValidations, leave, quiet, reply}
 
 -- no car, no phone
 abbrev pub noValidations : Validations
@@ -43,7 +43,7 @@ unfoldable pub forgetting : Core → Answer → List ℕ → Said
 forgetting c a id =
     cond (contains id (phonesOf (c .validations .phones)))
     (stored c a (storeOf (c .validations .car) (removeAll id (phonesOf (c .validations .phones)))))
-    (leave c a)
+    (quiet c a)
 
 unfoldable pub forget : Core → List ℕ → Said
 forget c id = forgetting c Done id

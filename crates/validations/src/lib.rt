@@ -56,7 +56,7 @@ pub fn forgetting(core: Core, answer: Answer, id: &[u8]) -> Said
         let left = Validations { car, phones: rest };
         return stored(core, answer, left);
     }
-    state::replies::leave(core, answer)
+    state::replies::quiet(core, answer)
 }
 
 pub fn forget_phone_validation(core: Core, id: &[u8]) -> Said

@@ -29,12 +29,12 @@ returns-2 : tie.Need-returns-2
 unfolding forgetting
 returns-2 c = rw (c .stored2 .ensures, ← c .before .before .before .before .before .before .contains .ensures, c .before .before .before .before .before .if1 .taken, store-some _ _ _ _ (c .before .before .before .before .remove-all .ensures) (c .before .before .before .count .ensures) (c .before .before .if2 .left))
 
-leave-requires : tie.Need-leave-requires
-leave-requires c κs = tt
+quiet-requires : tie.Need-quiet-requires
+quiet-requires c κs = tt
 
 returns-3 : tie.Need-returns-3
 unfolding forgetting
-returns-3 c = rw (c .leave .ensures, ← c .before .before .contains .ensures, c .before .if1 .left)
+returns-3 c = rw (c .quiet .ensures, ← c .before .before .contains .ensures, c .before .if1 .left)
 
 pub forgetting-spec : {M : Type 1} → statement M
 forgetting-spec =
@@ -48,5 +48,5 @@ forgetting-spec =
     returns
     stored-requires-2
     returns-2
-    leave-requires
+    quiet-requires
     returns-3)
