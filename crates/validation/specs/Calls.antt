@@ -31,28 +31,6 @@ use Rattle.session.specs.declared.Lapse.the-variants.{Stays, Ends}
 use Rattle.session_times.specs.Times.{saturatingAdd, secondsTo, nextNumber}
 use Rattle.session.specs.Session.{replyOf, endedAs, triedOnce, isOf, lostReadWrite, noteAt, lapseOf, placeOf}
 
--- ---- tick
-
-abbrev pub withSession : Core → Session → Core
-withSession c s = withValidation c (record { session = s; «cooldown_until» = c .validation .«cooldown_until»; next = c .validation .next })
-
--- after_change: the running session ended
-unfoldable pub endSession : Core → Answer → Status → ℕ → Said
-endSession c a status clock = finish (withSession c (endedAs (c .validation .session) status clock)) a (challengeChanged noChallenge)
-
--- a call that ticks first: where the tick ends the session it answers a, and else goes on
-abbrev pub ticking : Core → ℕ → Answer → Said → Lapse → Said
-ticking c clock a o Stays = o
-ticking c clock a o (Ends status) = endSession c a status clock
-
--- tick_validation
-unfoldable pub tick : Core → ℕ → Said
-tick c clock = ticking c clock Done (leave c Done) (lapseOf c clock)
-
--- the session runs and is this phone's
-unfoldable pub runsFor : Session → List ℕ → Bool
-runsFor s phone = inProgress s && isOf s phone
-
 -- ---- start
 
 -- the refusals before the draw
@@ -123,6 +101,28 @@ start c phone method clock lent gives = startAt c phone (placeOf (c .methods) me
 unfoldable pub draws : Core → List ℕ → List ℕ → ℕ → Bool
 draws c phone method clock =
     unmet (startChecks c phone (placeOf (c .methods) method) clock) && isCode (methodAt (c .methods) (placeOf (c .methods) method) .kind)
+
+-- ---- tick
+
+abbrev pub withSession : Core → Session → Core
+withSession c s = withValidation c (record { session = s; «cooldown_until» = c .validation .«cooldown_until»; next = c .validation .next })
+
+-- after_change: the running session ended
+unfoldable pub endSession : Core → Answer → Status → ℕ → Said
+endSession c a status clock = finish (withSession c (endedAs (c .validation .session) status clock)) a (challengeChanged noChallenge)
+
+-- a call that ticks first: where the tick ends the session it answers a, and else goes on
+abbrev pub ticking : Core → ℕ → Answer → Said → Lapse → Said
+ticking c clock a o Stays = o
+ticking c clock a o (Ends status) = endSession c a status clock
+
+-- tick_validation
+unfoldable pub tick : Core → ℕ → Said
+tick c clock = ticking c clock Done (leave c Done) (lapseOf c clock)
+
+-- the session runs and is this phone's
+unfoldable pub runsFor : Session → List ℕ → Bool
+runsFor s phone = inProgress s && isOf s phone
 
 -- ---- a session succeeds
 
