@@ -5,7 +5,7 @@ use mathlib.Core.List.{[], _∷_}
 use Prim.Native.Nat.{ℕ}
 use Rattle.arrays.specs.Arrays.{padded}
 use Rattle.draw.specs.declared.Drawn.{Drawn}
-use Rattle.draw.specs.Draw.{group, firstBelow, digits, drawLimit, none, drawn}
+use Rattle.draw.specs.Draw.{group, firstBelow, digits, drawLimit, noCodeDrawn, drawn}
 
 -- the digits w x y z in ASCII, and zeros past them
 abbrev four : ℕ → ℕ → ℕ → ℕ → Drawn
@@ -27,6 +27,6 @@ unfolding drawn firstBelow drawLimit group digits padded
 p3 = refl
 
 -- the limit itself gives no code
-pub p4 : drawn (0x80 ∷ 0xE3 ∷ 0xFF ∷ 0xFF ∷ []) 4 ≡ none
+pub p4 : drawn (0x80 ∷ 0xE3 ∷ 0xFF ∷ 0xFF ∷ []) 4 ≡ noCodeDrawn
 unfolding drawn firstBelow drawLimit group digits padded
 p4 = refl

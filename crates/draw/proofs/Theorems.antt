@@ -16,7 +16,7 @@ use Rattle.arrays.specs.Arrays.{padded}
 use Rattle.arrays.proofs.Laws.{padded-length}
 use Rattle.draw.specs.declared.Found.{Found}
 use Rattle.draw.specs.declared.Found.the-variants.{Value, Spent}
-use Rattle.draw.specs.Draw.{group, groupAt, firstBelow, digits, drawLimit, none, codeOf, drawn}
+use Rattle.draw.specs.Draw.{group, groupAt, firstBelow, digits, drawLimit, noCodeDrawn, codeOf, drawn}
 use Rattle.draw.proofs.Laws.{ten-pos, ten-small, digits-length}
 
 -- ---- the limit
@@ -145,7 +145,7 @@ found-code : (n : ℕ) (f : Found) → n ≤ 9 → codeOf n f .ok ≡ true → C
 found-code n (Value v) h p = digits-code (v % 10 ^ n) n h
 found-code n Spent h p = absurd (false≢true p)
 
-found-none : (n : ℕ) (f : Found) → codeOf n f .ok ≡ false → codeOf n f ≡ none
+found-none : (n : ℕ) (f : Found) → codeOf n f .ok ≡ false → codeOf n f ≡ noCodeDrawn
 found-none n (Value v) p = absurd (true≢false p)
 found-none n Spent p = refl
 
@@ -154,7 +154,7 @@ pub code-form : (random : List ℕ) (n : ℕ) → n ≤ 9 → drawn random n .ok
 code-form random n h = rw (within random n h) (found-code n (firstBelow (drawLimit n) random) h)
 
 -- one that gives none gives nine zeros
-pub no-code : (random : List ℕ) (n : ℕ) → n ≤ 9 → drawn random n .ok ≡ false → drawn random n ≡ none
+pub no-code : (random : List ℕ) (n : ℕ) → n ≤ 9 → drawn random n .ok ≡ false → drawn random n ≡ noCodeDrawn
 no-code random n h = rw (within random n h) (found-none n (firstBelow (drawLimit n) random))
 
 -- ---- when there is a code

@@ -34,15 +34,14 @@ unfoldable pub digits : ℕ → ℕ → List ℕ
 digits v zero = []
 digits v (suc k) = digits (v / 10) k ++ (48 + v % 10) ∷ []
 
--- no code
-abbrev pub none : Drawn
-none = record { ok = false; code = replicate 9 0 }
+abbrev pub noCodeDrawn : Drawn
+noCodeDrawn = record { ok = false; code = replicate 9 0 }
 
 -- the group modulo 10^n gives n digits
 abbrev pub codeOf : ℕ → Found → Drawn
 codeOf n (Value v) = record { ok = true; code = padded 9 0 (digits (v % 10 ^ n) n) }
-codeOf n Spent = none
+codeOf n Spent = noCodeDrawn
 
 -- the code of n digits that random bytes draw; none if n is above 9
 unfoldable pub drawn : List ℕ → ℕ → Drawn
-drawn random n = cond (ltb 9 n) none (codeOf n (firstBelow (drawLimit n) random))
+drawn random n = cond (ltb 9 n) noCodeDrawn (codeOf n (firstBelow (drawLimit n) random))

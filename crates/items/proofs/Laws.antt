@@ -40,25 +40,25 @@ the-most most n (v ∷ vs) e = number-most 10 most n v e
 -- ---- a value is no longer than its line
 
 pub data Short (n : ℕ) : List (List ℕ) → Type 0 where
-  none : Short n []
+  no-words : Short n []
   more : (w : List ℕ) (ws : List (List ℕ)) → length w ≤ n → Short n ws → Short n (w ∷ ws)
 
 wider : {n : ℕ} {ws : List (List ℕ)} → Short n ws → Short (suc n) ws
-wider none = none
+wider no-words = no-words
 wider (more w ws p h) = more w ws (omega arith) (wider h)
 
 word-by : (x n : ℕ) {ws : List (List ℕ)} (t : Bool) → Short n ws → Short (suc n) (cond t ([] ∷ ws) (onto x ws))
 word-by x n {ws} true h = more [] ws (omega arith) (wider h)
-word-by x n false none = more (x ∷ []) [] (omega arith) none
+word-by x n false no-words = more (x ∷ []) [] (omega arith) no-words
 word-by x n false (more w ws p h) = more (x ∷ w) ws (omega arith) (wider h)
 
 split-short : (b : ℕ) (s : List ℕ) → Short (length s) (split b s)
 unfolding split
-split-short b [] = more [] [] (omega arith) none
+split-short b [] = more [] [] (omega arith) no-words
 split-short b (x ∷ xs) = word-by x (length xs) (eqb x b) (split-short b xs)
 
 after-short : {n : ℕ} {ws : List (List ℕ)} → Short n ws → Short n (afterFirst ws)
-after-short none = none
+after-short no-words = no-words
 after-short (more w ws p h) = h
 
 value-by : (k n : ℕ) (w : List ℕ) (vs : List (List ℕ)) (t : Bool) → length w ≤ n → Short n vs → Short n (cond t (drop (suc k) w ∷ vs) vs)
@@ -69,13 +69,13 @@ value-by k n w vs false p h = h
 
 values-short : (key : List ℕ) {n : ℕ} {ws : List (List ℕ)} → Short n ws → Short n (valuesOf key ws)
 unfolding valuesOf
-values-short key none = none
+values-short key no-words = no-words
 values-short key {n} (more w ws p h) = value-by (length key) n w (valuesOf key ws) (hasKey key w) p (values-short key h)
 
 only-short : {n : ℕ} {vs : List (List ℕ)} → Short n vs → Short n (only vs)
-only-short none = none
+only-short no-words = no-words
 only-short (more v [] p h) = more v [] p h
-only-short (more v (w ∷ vs) p h) = none
+only-short (more v (w ∷ vs) p h) = no-words
 
 pub item-short : (key line : List ℕ) → Short (length line) (itemOf key line)
 unfolding itemOf itemsOf
@@ -88,7 +88,7 @@ bytes-by v n true p =
 bytes-by v n false p = omega arith
 
 bytes-length : {n : ℕ} {vs : List (List ℕ)} → Short n vs → length (bytesIn vs) ≤ n / 2
-bytes-length none = omega arith
+bytes-length no-words = omega arith
 bytes-length {n} (more v vs p h) = bytes-by v n (isHex v) p
 
 pub bytes-short : (key line : List ℕ) → length (bytesAt key line) ≤ length line / 2
@@ -107,7 +107,7 @@ laid-by v at size false e = refl
 
 pub laid-as : {n : ℕ} {vs : List (List ℕ)} (at size : ℕ) → Short n vs → at + n / 2 ≤ size → theBytes vs at size ≡ cond (areBytes vs) (To (at + length (bytesIn vs))) NoBytes
 unfolding laidTo fitsIn
-laid-as at size none fits = refl
+laid-as at size no-words fits = refl
 laid-as at size (more v vs p h) fits = laid-by v at size (isHex v) (le-ltb size (at + length v / 2) (omega arith))
 
 lay-by : (v out : List ℕ) (at : ℕ) (t : Bool) → ltb (length out) (at + length v / 2) ≡ false → cond (cond t (cond (ltb (length out) (at + length v / 2)) false true) false) (put out at (pairsOf v)) out ≡ put out at (cond t (pairsOf v) [])
@@ -116,7 +116,7 @@ lay-by v out at false e = sym (put-none out at)
 
 pub lay-as : {n : ℕ} {vs : List (List ℕ)} (at : ℕ) (out : List ℕ) → Short n vs → at + n / 2 ≤ length out → layTheBytes vs at out ≡ put out at (bytesIn vs)
 unfolding layBytes fitsIn
-lay-as at out none fits = sym (put-none out at)
+lay-as at out no-words fits = sym (put-none out at)
 lay-as at out (more v vs p h) fits = lay-by v out at (isHex v) (le-ltb (length out) (at + length v / 2) (omega arith))
 
 pub took : (t : Bool) (m e : ℕ) → cond t (To m) NoBytes ≡ To e → (t ≡ true) × (m ≡ e)

@@ -85,15 +85,28 @@ lentBytes p room = record {
 unfoldable pub joined : Bytes → List ℕ
 joined b = b .phone ++ b .method ++ b .random ++ b .code ++ b .stored ++ b .fingerprint ++ b .owner
 
--- one value laid down in memory from a place on
+-- where each ends then
+unfoldable pub endsOf : Bytes → Ends
+endsOf b = record {
+  phone = length (b .phone);
+  method = length (b .phone ++ b .method);
+  random = length (b .phone ++ b .method ++ b .random);
+  code = length (b .phone ++ b .method ++ b .random ++ b .code);
+  stored = length (b .phone ++ b .method ++ b .random ++ b .code ++ b .stored);
+  fingerprint = length (b .phone ++ b .method ++ b .random ++ b .code ++ b .stored ++ b .fingerprint);
+  owner = length (joined b);
+}
+
+-- one value laid down in memory from a place on; `near` follows, for a byte is two digits of the line
 pub record LaidAt (key line before after : List ℕ) (at : ℕ) (r : LaidValue) : Type 0 where
   pub has : r .ok ≡ hasBytes key line
   pub end : r .end ≡ at + length (bytesAt key line)
   pub memory : after ≡ put before at (bytesAt key line)
   pub near : r .end ≤ at + length line / 2
 
--- all of them, from the start of the memory on
+-- all of them, from the start of the memory on; `bytes` follows from where they end and from the memory
 pub record LaidAll (line before after : List ℕ) (r : LaidValues) : Type 0 where
   pub has : r .has ≡ hasAt line
+  pub ends : r .ends ≡ endsOf (bytesOf line)
   pub bytes : lentBytes (r .ends) after ≡ bytesOf line
   pub memory : after ≡ put before 0 (joined (bytesOf line))

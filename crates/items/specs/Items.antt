@@ -9,7 +9,7 @@ use Rattle.script.specs.Lists.{noMethods, addMethods, noFrames, addFrames}
 use Rattle.script.specs.Places.{itemOf, valuesOf}
 use Rattle.script.specs.Values.{isTheWord, theCar}
 use Rattle.script.specs.Words.{itemsOf}
-use Rattle.items.specs.Bytes.{hasAt, lentBytes, bytesOf, joined}
+use Rattle.items.specs.Bytes.{hasAt, lentBytes, bytesOf, joined, endsOf}
 use Rattle.items.specs.Values.{numbersAt, switchesAt, classAt, frameAt, settingsAt}
 use Rattle.items.specs.declared.Items.{Items}
 use Rattle.items.specs.declared.ItemsRead.{ItemsRead}
@@ -29,8 +29,9 @@ readOf line = record {
   has = hasAt line;
 }
 
--- what was read, with the byte values in lent memory
+-- what was read, with the byte values in lent memory; `bytes` follows from where they end and from the memory
 pub record Reads (line before after : List ℕ) (r : ItemsRead) : Type 0 where
   pub items : r .items ≡ readOf line
+  pub ends : r .ends ≡ endsOf (bytesOf line)
   pub bytes : lentBytes (r .ends) after ≡ bytesOf line
   pub memory : after ≡ put before 0 (joined (bytesOf line))

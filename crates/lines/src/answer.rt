@@ -8,7 +8,8 @@ ghost use Prim.Native.Nat.{_≤_};
 ghost use Rattle.lines.specs.Page.{page, text};
 ghost use Rattle.lines.specs.Answer.{letters, nameOf, kindName, statusName, shape, amounts, reply, heldBy, keyName, behind, answer};
 
-// The place of a word among those of `put_word`: its first letter, and the one after its last.
+// The place of a word among those of `put_word`: its first letter, and the one after its last. The contracts fix the letters;
+// where they stand is open.
 pub struct Word(pub usize, pub usize);
 
 fn answer_word(a: Answer) -> Word

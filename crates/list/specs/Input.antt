@@ -1,4 +1,4 @@
--- What a program knows of what it read.
+-- What a program knows of what it read; the bytes are open.
 use Prim.Native.Nat.{ℕ, _≤_}
 use Rattle.list.specs.declared.Input.{Input}
 use Rattle.list.specs.declared.Input.the-variants.{Bytes, Failed}

@@ -1,4 +1,5 @@
-// Reads a record on standard input and prints its listing. What is printed is `listing::list_record` of what was read.
+// Reads a record on standard input and prints its listing. What is printed is `listing::list_record` of what was read. What a
+// program reads and writes is open to a contract: `print_listing` and `main` give nothing back.
 use libc::STDIN_FILENO;
 use libc::STDOUT_FILENO;
 ghost use lib.ListN.{length};
@@ -10,7 +11,7 @@ enum Input {
     Failed,
 }
 
-// Reads to the end of the input, or until `buf` is full.
+// Reads to the end of the input, or until `buf` is full. What it reads and how much is open; it is no more than `buf` holds.
 fn read_input(buf: &mut [u8]) -> Input
     ensures { λ r. ⌜ Within (length (now (buf .exit))) r ⌝ }
 {

@@ -1,9 +1,14 @@
-// The listings of records that document 01 speaks of, each after a line with the case's name.
+// The listings of records that document 01 speaks of, each after a line with the case's name. What a program writes is open
+// to a contract: the `show` functions and `main` give nothing back, and the file `stdout` has what they write.
 use libc::STDOUT_FILENO;
+ghost use mathlib.Core.Path.{_≡_};
+ghost use Rattle.list_cases.specs.Records.{written, withByte, withRun, withHead, withPhone, withPhones};
 
 // Each `put_` function answers the place after what it wrote; past the end of `dst` nothing is written.
 
-fn put_byte(dst: &mut [u8], at: usize, b: u8) -> usize {
+fn put_byte(dst: &mut [u8], at: usize, b: u8) -> usize
+    ensures { λ r. ⌜ written (now (dst .exit)) r ≡ withByte b (written (now (dst .entry)) at) ⌝ }
+{
     if at < dst.len() {
         dst[at] = b;
         return at + 1;
@@ -12,7 +17,9 @@ fn put_byte(dst: &mut [u8], at: usize, b: u8) -> usize {
 }
 
 // `n` bytes, the first one `first` and each `step` more than the one before, 0 after 255.
-fn put_run(dst: &mut [u8], at: usize, first: u8, step: u8, n: u8) -> usize {
+fn put_run(dst: &mut [u8], at: usize, first: u8, step: u8, n: u8) -> usize
+    ensures { λ r. ⌜ written (now (dst .exit)) r ≡ withRun first step n (written (now (dst .entry)) at) ⌝ }
+{
     let mut end = at;
     let mut b = first;
     let mut left = n;
@@ -25,19 +32,25 @@ fn put_run(dst: &mut [u8], at: usize, first: u8, step: u8, n: u8) -> usize {
 }
 
 // Version 1, 32 times 0x11, and the count.
-fn put_head(dst: &mut [u8], count: u8) -> usize {
+fn put_head(dst: &mut [u8], count: u8) -> usize
+    ensures { λ r. ⌜ written (now (dst .exit)) r ≡ withHead count (now (dst .entry)) ⌝ }
+{
     let from = put_byte(&mut *dst, 0, 1);
     let end = put_run(&mut *dst, from, 0x11, 0, 32);
     put_byte(&mut *dst, end, count)
 }
 
-fn put_phone(dst: &mut [u8], at: usize, first: u8, len: u8) -> usize {
+fn put_phone(dst: &mut [u8], at: usize, first: u8, len: u8) -> usize
+    ensures { λ r. ⌜ written (now (dst .exit)) r ≡ withPhone first len (written (now (dst .entry)) at) ⌝ }
+{
     let from = put_byte(&mut *dst, at, len);
     put_run(&mut *dst, from, first, 1, len)
 }
 
 // `n` phones of `len` bytes; the first byte of each is its place.
-fn put_phones(dst: &mut [u8], at: usize, n: u8, len: u8) -> usize {
+fn put_phones(dst: &mut [u8], at: usize, n: u8, len: u8) -> usize
+    ensures { λ r. ⌜ written (now (dst .exit)) r ≡ withPhones n len (written (now (dst .entry)) at) ⌝ }
+{
     let mut end = at;
     let mut i = 0;
     while i < n {

@@ -1,4 +1,5 @@
 -- A script, byte by byte: what is there of the line that is being read, and what a line gives once it has ended.
+use mathlib.Core.Path.{_≡_}
 use mathlib.Core.Bool.{Bool, false, cond}
 use mathlib.Core.List.{List, [], _∷_, _++_}
 use Prim.Native.Nat.{ℕ, _+_, _-_, _%_, _^_}
@@ -66,6 +67,11 @@ grown room b r = record { gate = r .gate; number = r .number; line = plus room b
 unfoldable pub read : ℕ → List ℕ → Reading → Reading
 read room [] r = r
 read room (b ∷ bs) r = read room bs (cond (eqb b 10) (ended r) (grown room b r))
+
+-- a piece of the script was read
+pub record ReadOn (room : ℕ) (before after : Reading) : Type 0 where
+  pub piece : List ℕ
+  pub gives : after ≡ read room piece before
 
 -- ---- what the code keeps
 

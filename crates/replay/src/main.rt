@@ -1,5 +1,6 @@
 // Reads a script on standard input, plays it on one gate and prints what each line gives; with the argument `--state` also
-// the gate's state after each call. What is printed of a line is `player::play` of it.
+// the gate's state after each call. What is printed of a line is `player::play` of it. What a program reads and writes is open
+// to a contract; `run` and `main` give nothing back.
 use libc::STDIN_FILENO;
 use libc::STDOUT_FILENO;
 use state::Gate;
@@ -10,7 +11,7 @@ ghost use Prim.Native.Nat.{_*_, _≤_};
 ghost use lib.ListN.{length};
 ghost use Rattle.lines.specs.Page.{page};
 ghost use Rattle.turns.specs.Turns.{turnOf};
-ghost use Rattle.replay.specs.Script.{keptLen, keptIn, lineIn, lineGives, gateAfter, read, readingOf, nextLine};
+ghost use Rattle.replay.specs.Script.{keptLen, keptIn, lineIn, lineGives, gateAfter, read, ReadOn, readingOf, nextLine};
 
 // The gate, the number of the line that is being read, and how much of it is there; above the room for a line: it is too
 // long. Not `going`: the script has ended, or reading or writing failed.
@@ -21,7 +22,7 @@ struct Replay {
     going: bool,
 }
 
-// Whether the first argument asks for states.
+// Whether the first argument asks for states. What the argument is, is open.
 fn wants_states() -> bool {
     let mut word = [0u8; 16];
     let n = os::arg(1, &mut word);
@@ -42,8 +43,10 @@ fn keep(line: &mut [u8], len: usize, more: &[u8]) -> usize
     len + more.len()
 }
 
-// Prints the first `at` bytes that were laid down.
-fn print(out: &[u8], at: usize) -> bool {
+// Prints the first `at` bytes that were laid down. Whether that goes well is open; it does not if the memory has no such part.
+fn print(out: &[u8], at: usize) -> bool
+    ensures { λ r. ⌜ (r ≡ true → at ≤ length (now (out .entry))) ⌝ }
+{
     if at <= out.len() {
         if io::write_all(STDOUT_FILENO, &out[..at]) {
             return true;
@@ -54,7 +57,7 @@ fn print(out: &[u8], at: usize) -> bool {
     false
 }
 
-// Lays down what a line gives; one that is passed over gives nothing.
+// Lays down what a line gives; one that is passed over gives nothing. What is left in `room` is open: nothing reads it again.
 fn give_line(p: Replay, line: &[u8], states: bool, room: &mut [u8], out: &mut [u8]) -> Played
     requires { ⌜ 7 * length (now line) ≤ 2 * length (now room) ⌝ }
     ensures { λ r. ⌜ turnOf r (now (out .exit)) ≡ lineGives states (p .gate) (p .number) (lineIn (now (line .entry)) (p .len)) (page (now (out .entry)) 0) ⌝ }
@@ -71,7 +74,8 @@ fn give_line(p: Replay, line: &[u8], states: bool, room: &mut [u8], out: &mut [u
     player::play(g, p.number, &line[..n], states, room, out)
 }
 
-// Plays the line that has ended; the next one has no byte yet.
+// Plays the line that has ended; the next one has no byte yet. Open is whether it goes on, as `print` says, and what is left
+// in `room` and `out`, which nothing reads again.
 fn finish_line(p: Replay, line: &[u8], states: bool, room: &mut [u8], out: &mut [u8]) -> Replay
     requires { ⌜ 7 * length (now line) ≤ 2 * length (now room) ⌝ }
     ensures { λ r. ⌜ r ≡ nextLine (p .number) (gateAfter (p .gate) (p .number) (lineIn (now (line .entry)) (p .len))) (r .going) ⌝ }
@@ -87,7 +91,7 @@ fn finish_line(p: Replay, line: &[u8], states: bool, room: &mut [u8], out: &mut 
     }
 }
 
-// Plays the lines that end in this piece of the script.
+// Plays the lines that end in this piece of the script. If it does not go on, what is left is open: nothing reads it again.
 fn read_piece(
     p: Replay,
     piece: &[u8],
@@ -117,9 +121,11 @@ fn read_piece(
     q
 }
 
-// Reads a piece of the script. At its end the last line is played, and then, or if reading fails, it does not go on.
+// Reads a piece of the script. At its end the last line is played, and then, or if reading fails, it does not go on. Which
+// bytes the piece has is open, and if it does not go on, what is left.
 fn turn(p: Replay, line: &mut [u8], states: bool, room: &mut [u8], out: &mut [u8]) -> Replay
     requires { ⌜ 7 * length (now line) ≤ 2 * length (now room) ⌝ }
+    ensures { λ r. ⌜ (r .going ≡ true → ReadOn (length (now (line .entry))) (readingOf p (now (line .entry))) (readingOf r (now (line .exit)))) ⌝ }
 {
     let mut piece = io::buffer();
     let got = libc::read(STDIN_FILENO, &mut piece);

@@ -48,6 +48,7 @@ noSlashes = record { ok = false; one = 0; two = 0 }
 unfoldable pub cutAt : List ℕ → Slashes → Parts
 cutAt v r = cond (r .ok) (three (take (r .one) v) (part (r .one + 1) (r .two) v) (part (r .two + 1) (length v) v)) notThree
 
+-- r has the places of a value's two slashes; if it has not two, r's places are open
 pub record Cut (v : List ℕ) (r : Slashes) : Type 0 where
   pub parts : threeOf (split 47 v) ≡ cutAt v r
   pub first : r .ok ≡ true → r .one < r .two

@@ -25,7 +25,8 @@ noSpan = record { ok = false; start = 0; end = 0 }
 unfoldable pub shown : List ℕ → Span → List (List ℕ) → List (List ℕ)
 shown line r vs = cond (r .ok) (part (r .start) (r .end) line ∷ vs) []
 
--- r marks the first value with this key behind the word at `from`; if it marks none, there is none
+-- r marks the first value with this key behind the word at `from`; if it marks none, there is none, and where its places lie
+-- in the line is open
 pub record Next (line : List ℕ) (from : ℕ) (key : List ℕ) (r : Span) : Type 0 where
   pub values : valuesOf key (itemsOf (drop from line)) ≡ shown line r (valuesOf key (itemsOf (drop (r .end) line)))
   pub ordered : r .start ≤ r .end
@@ -42,7 +43,7 @@ only (v ∷ w ∷ vs) = []
 unfoldable pub itemOf : List ℕ → List ℕ → List (List ℕ)
 itemOf key line = only (valuesOf key (itemsOf line))
 
--- r marks it
+-- r marks it; if it marks none, there is none, and where its places lie in the line is open
 pub record Only (line : List ℕ) (key : List ℕ) (r : Span) : Type 0 where
   pub value : itemOf key line ≡ shown line r []
   pub ordered : r .start ≤ r .end

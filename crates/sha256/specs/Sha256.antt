@@ -23,8 +23,8 @@ x & y = bitAnd x y
 abbrev pub _⊕_ : ℕ → ℕ → ℕ
 x ⊕ y = bitXor x y
 
-abbrev pub not : ℕ → ℕ
-not x = 2 ^ 32 - 1 - x
+abbrev pub complement : ℕ → ℕ
+complement x = 2 ^ 32 - 1 - x
 
 -- x >> n and x << n; the bits that x << n moves past the word's end are lost
 abbrev pub SHR : ℕ → ℕ → ℕ
@@ -40,7 +40,7 @@ ROTR n x = bitOr (SHR n x) (SHL (32 - n) x)
 -- ---- 4.1.2: functions
 
 abbrev pub Ch : ℕ → ℕ → ℕ → ℕ
-Ch x y z = (x & y) ⊕ (not x & z)
+Ch x y z = (x & y) ⊕ (complement x & z)
 
 abbrev pub Maj : ℕ → ℕ → ℕ → ℕ
 Maj x y z = (x & y) ⊕ (x & z) ⊕ (y & z)

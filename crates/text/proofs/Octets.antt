@@ -9,7 +9,7 @@ use native.Mathlib.Omega.{arith}
 use borrow.Author.Tests.{le-leb, lt-leb, leb-true, leb-false, eqb-true, eq-eqb, ne-eqb}
 use lib.Dec.{leb, eqb}
 use lib.ListN.{length}
-use Rattle.text.specs.Utf8.{within, scalar, encode, tail, utf8-1, utf8-2, utf8-3, utf8-4, begins3, begins4, point2, point3, point4}
+use Rattle.text.specs.Utf8.{within, scalar, encode, utf8-tail, utf8-1, utf8-2, utf8-3, utf8-4, begins3, begins4, point2, point3, point4}
 use Rattle.text.specs.Steps.{firstChar, first2, first3, first4}
 use Rattle.text.specs.declared.Char.the-variants.{Point}
 use Rattle.text.proofs.Ranges.{inside, outside, within-true}
@@ -108,13 +108,13 @@ begins3-true a b e =
     w = eqb a 0xE0 && within 0xA0 0xBF b
 
     x : Bool
-    x = within 0xE1 0xEC a && tail b
+    x = within 0xE1 0xEC a && utf8-tail b
 
     y : Bool
     y = eqb a 0xED && within 0x80 0x9F b
 
     z : Bool
-    z = within 0xEE 0xEF a && tail b
+    z = within 0xEE 0xEF a && utf8-tail b
 
 begins4-true : (a b : ℕ) → begins4 a b ≡ true → Begins4 a b
 unfolding begins4
@@ -128,7 +128,7 @@ begins4-true a b e =
     w = eqb a 0xF0 && within 0x90 0xBF b
 
     x : Bool
-    x = within 0xF1 0xF3 a && tail b
+    x = within 0xF1 0xF3 a && utf8-tail b
 
     y : Bool
     y = eqb a 0xF4 && within 0x80 0x8F b
@@ -210,8 +210,8 @@ pub form-3 : (a b c : ℕ) → utf8-3 a b c ≡ true → Encodes (point3 a b c) 
 unfolding utf8-3
 form-3 a b c e = go (begins3-true a b (p .0)) (within-true 0x80 0xBF c (p .1))
   where
-    p : (begins3 a b ≡ true) × (tail c ≡ true)
-    p = and-true (begins3 a b) (tail c) e
+    p : (begins3 a b ≡ true) × (utf8-tail c ≡ true)
+    p = and-true (begins3 a b) (utf8-tail c) e
 
     go : Begins3 a b → Tail c → Encodes (point3 a b c) (a ∷ b ∷ c ∷ [])
     go (inl q) t = three a b c (omega arith) t (omega arith) (low (point3 a b c) (omega arith))
@@ -229,11 +229,11 @@ pub form-4 : (a b c d : ℕ) → utf8-4 a b c d ≡ true → Encodes (point4 a b
 unfolding utf8-4
 form-4 a b c d e = go (begins4-true a b (q .0)) (within-true 0x80 0xBF c (q .1)) (within-true 0x80 0xBF d (p .1))
   where
-    p : ((begins4 a b && tail c) ≡ true) × (tail d ≡ true)
-    p = and-true (begins4 a b && tail c) (tail d) e
+    p : ((begins4 a b && utf8-tail c) ≡ true) × (utf8-tail d ≡ true)
+    p = and-true (begins4 a b && utf8-tail c) (utf8-tail d) e
 
-    q : (begins4 a b ≡ true) × (tail c ≡ true)
-    q = and-true (begins4 a b) (tail c) (p .0)
+    q : (begins4 a b ≡ true) × (utf8-tail c ≡ true)
+    q = and-true (begins4 a b) (utf8-tail c) (p .0)
 
     go : Begins4 a b → Tail c → Tail d → Encodes (point4 a b c d) (a ∷ b ∷ c ∷ d ∷ [])
     go (inl f) t u = four a b c d (omega arith) t u (omega arith) (omega arith)

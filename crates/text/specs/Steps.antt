@@ -43,7 +43,8 @@ turnOf t c next =
 abbrev pub part : ℕ → ℕ → List ℕ → List ℕ
 part a e s = take (e - a) (drop a s)
 
--- what an answer of `trim` says of the string
+-- what an answer of `trim` says of the string: the bytes that are left are fixed, and where they stand is open if they stand
+-- there twice or if there are none
 abbrev pub Says : List ℕ → Trimmed → Type 0
 Says s NotText = isText s ≡ false
 Says s (Text a e) = (isText s ≡ true) × (trimmed s ≡ part a e s) × (a ≤ e) × (e ≤ length s)

@@ -34,35 +34,35 @@ encodeAll (c ∷ cs) = encode c ++ encodeAll cs
 -- ---- section 4: from octets to characters
 
 -- UTF8-tail, and the four forms of a character, as the grammar has them
-abbrev pub tail : ℕ → Bool
-tail a = within 0x80 0xBF a
+abbrev pub utf8-tail : ℕ → Bool
+utf8-tail a = within 0x80 0xBF a
 
 abbrev pub utf8-1 : ℕ → Bool
 utf8-1 a = leb a 0x7F
 
 unfoldable pub utf8-2 : ℕ → ℕ → Bool
-utf8-2 a b = within 0xC2 0xDF a && tail b
+utf8-2 a b = within 0xC2 0xDF a && utf8-tail b
 
 -- the first two octets of UTF8-3
 unfoldable pub begins3 : ℕ → ℕ → Bool
 begins3 a b =
     eqb a 0xE0 && within 0xA0 0xBF b
-    || within 0xE1 0xEC a && tail b
+    || within 0xE1 0xEC a && utf8-tail b
     || eqb a 0xED && within 0x80 0x9F b
-    || within 0xEE 0xEF a && tail b
+    || within 0xEE 0xEF a && utf8-tail b
 
 unfoldable pub utf8-3 : ℕ → ℕ → ℕ → Bool
-utf8-3 a b c = begins3 a b && tail c
+utf8-3 a b c = begins3 a b && utf8-tail c
 
 -- the first two octets of UTF8-4
 unfoldable pub begins4 : ℕ → ℕ → Bool
 begins4 a b =
     eqb a 0xF0 && within 0x90 0xBF b
-    || within 0xF1 0xF3 a && tail b
+    || within 0xF1 0xF3 a && utf8-tail b
     || eqb a 0xF4 && within 0x80 0x8F b
 
 unfoldable pub utf8-4 : ℕ → ℕ → ℕ → ℕ → Bool
-utf8-4 a b c d = begins4 a b && tail c && tail d
+utf8-4 a b c d = begins4 a b && utf8-tail c && utf8-tail d
 
 -- the character numbers: the bits marked x of the octets
 abbrev pub point2 : ℕ → ℕ → ℕ

@@ -3,7 +3,7 @@ ghost use mathlib.Core.Path.{_≡_};
 ghost use Prim.Native.Nat.{min};
 ghost use Rattle.arrays.specs.Arrays.{sameBytes};
 ghost use Rattle.text.specs.Utf8 as Utf8;
-ghost use Rattle.text.specs.Utf8.{utf8-2, utf8-3, utf8-4};
+ghost use Rattle.text.specs.Utf8.{utf8-tail, utf8-2, utf8-3, utf8-4};
 ghost use Rattle.text.specs.Text.{white, isText, right};
 ghost use Rattle.text.specs.Steps.{firstChar, turnOf, Says};
 
@@ -44,7 +44,7 @@ fn within(lo: u32, hi: u32, x: u32) -> bool
 
 // UTF8-tail.
 fn is_tail(a: u32) -> bool
-    ensures { λ r. ⌜ r ≡ Utf8.tail a ⌝ }
+    ensures { λ r. ⌜ r ≡ utf8-tail a ⌝ }
 {
     within(0x80, 0xBF, a)
 }

@@ -10,7 +10,7 @@ use lib.Dec.{ltb}
 use lib.ListN.{length, take, drop, replicate}
 use Rattle.arrays.specs.Arrays.{padded}
 use Rattle.draw.specs.declared.Drawn.{Drawn}
-use Rattle.draw.specs.Draw.{none, drawn}
+use Rattle.draw.specs.Draw.{noCodeDrawn, drawn}
 use Rattle.draw.proofs.Theorems.{code-form, no-code}
 use Rattle.state.specs.Replies.{noCode}
 use Rattle.answers.specs.Answers.{shownDigits}
@@ -89,7 +89,7 @@ drawn-nine : (n : ℕ) (random : List ℕ) → Nine n (drawn random n)
 unfolding drawn
 drawn-nine n random = go (ltb 9 n) refl
   where
-    nothing : drawn random n ≡ none → Nine n (drawn random n)
+    nothing : drawn random n ≡ noCodeDrawn → Nine n (drawn random n)
     nothing e = rw e (record { long = refl; past = refl })
 
     few : n ≤ 9 → (b : Bool) → drawn random n .ok ≡ b → Nine n (drawn random n)

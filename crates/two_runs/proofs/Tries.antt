@@ -68,15 +68,15 @@ new-none : (g : Gate) (settings : Settings) (methods : List Method) (count : ℕ
 unfolding newGate newCore codeRuns codeInProgress inProgress
 new-none g settings methods count = none-more _ _ (go (settingsFit settings && methodsIn methods count))
   where
-    none : (b : Bool) → cond b 0 0 ≤ left g
-    none true = zero-le
-    none false = zero-le
+    zero-left : (b : Bool) → cond b 0 0 ≤ left g
+    zero-left true = zero-le
+    zero-left false = zero-le
 
     go : (b : Bool)
         → left (cond b (madeGate Done (newCore settings (newMethods methods count))) (madeGate BadSettings (newCore leastSettings (newMethods [] 0))) .gate)
         ≤ left g
-    go true = none (inRange (newCore settings (newMethods methods count)))
-    go false = none (inRange (newCore leastSettings (newMethods [] 0)))
+    go true = zero-left (inRange (newCore settings (newMethods methods count)))
+    go false = zero-left (inRange (newCore leastSettings (newMethods [] 0)))
 
 -- A call that begins no session: what it judges wrong, it takes from what may be judged wrong.
 left-step : (g : Gate) (c : Call) → begins c (step g c .answer) ≡ false → judgedWrong c (step g c .answer) + left (after g c) ≤ left g

@@ -8,9 +8,9 @@ use Rattle.sha256.proofs.Pieces.{hashFrom-append, cut-at-a-block}
 use Rattle.sha256.specs.Sha256.{hashFrom, H₀, finished, sha256}
 
 -- before the first block
-pub none : H₀ ≡ hashFrom H₀ [] 0
+pub no-block : H₀ ≡ hashFrom H₀ [] 0
 unfolding hashFrom
-none = refl
+no-block = refl
 
 -- after i blocks, j more
 pub more : (x i j : ℕ) {h b : List ℕ} → h ≡ hashFrom H₀ (replicate (64 * i) x) i → b ≡ replicate (64 * j) x

@@ -1,5 +1,6 @@
 // The examples of FIPS 180-4, and car digests of several lengths: a line each, with the digest in hexadecimal. The file
-// `stdout` was made with another implementation.
+// `stdout` was made with another implementation. What a program writes is open to a contract: `digest`, `line`, `car` and
+// `main` give nothing back, and `stdout` has what they write.
 ghost use mathlib.Core.Path.{_≡_};
 ghost use Prim.Native.Nat.{_≤_};
 ghost use lib.ListN.{length, replicate};

@@ -63,6 +63,7 @@ returns c =
         nobody = c .before .is-word .ensures j;
         has = l .has j;
       };
+      ends = l .ends;
       bytes = l .bytes;
       memory = l .memory;
     }

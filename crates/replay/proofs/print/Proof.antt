@@ -1,5 +1,6 @@
 -- What is printed lies in the memory. Assumes nothing.
 use native.Mathlib.Omega.{arith}
+use Rattle.script.proofs.Laws.{never}
 use Rattle.replay.proofs.Laws.{first-length}
 use borrow.Author.Needs.{needs}
 use Rattle.replay.proofs.print.Statement.{statement}
@@ -12,7 +13,7 @@ write-all-requires : tie.Need-write-all-requires
 write-all-requires c κs = search needs
 
 returns : tie.Need-returns
-returns c = search needs
+returns c = λ yes. omega arith
 
 slice-aggregate-fail : tie.Need-slice-aggregate-fail
 slice-aggregate-fail c = search needs
@@ -21,10 +22,10 @@ fail-requires : tie.Need-fail-requires
 fail-requires c κs = search needs
 
 returns-2 : tie.Need-returns-2
-returns-2 c = search needs
+returns-2 c = λ yes. never yes
 
 returns-3 : tie.Need-returns-3
-returns-3 c = search needs
+returns-3 c = λ yes. never yes
 
 pub print-spec : {M : Type 1} → statement M
 print-spec =

@@ -6,7 +6,7 @@ use native.Mathlib.Omega.{arith}
 use borrow.Author.Needs.{needs}
 use lib.ListN.{replicate}
 use Rattle.sha256.specs.Sha256.{hashFrom, H₀, finished}
-use Rattle.vectors.proofs.Repeated.{none, more, all}
+use Rattle.vectors.proofs.Repeated.{no-block, more, all}
 use Rattle.vectors.proofs.million.Statement.{statement}
 use Rattle.vectors.proofs.million.Tie as tie
 
@@ -20,7 +20,7 @@ initial-requires : tie.Need-initial-requires Inv-loop μ-loop
 initial-requires c κs = tt
 
 loop-holds : tie.Need-loop-holds Inv-loop μ-loop
-loop-holds c = (omega arith, c .initial .ensures ∙ none, refl, refl)
+loop-holds c = (omega arith, c .initial .ensures ∙ no-block, refl, refl)
 
 slice-aggregate-hash-blocks : tie.Need-slice-aggregate-hash-blocks Inv-loop μ-loop
 slice-aggregate-hash-blocks c = search needs

@@ -6,7 +6,7 @@ use Prim.Native.Nat.{_≤_}
 use native.Mathlib.Omega.{arith}
 use lib.ListN.{length}
 use Rattle.ascii.specs.Ascii.{ascii}
-use Rattle.items.specs.Bytes.{hasAt, bytesAt, bytesOf, lentBytes, joined}
+use Rattle.items.specs.Bytes.{hasAt, bytesAt, bytesOf, lentBytes, joined, endsOf}
 use Rattle.items.proofs.Laws.{begin, next, lent-in}
 use Rattle.items.proofs.bytes.lay_all.Statement.{statement}
 use Rattle.items.proofs.bytes.lay_all.Tie as tie
@@ -57,7 +57,7 @@ same-length : tie.Need-same-length
 same-length c = c .before .before .lay7 .kept .1 .1 .0 ∙ c .before .before .before .before .before .before .before .lay6 .kept .1 .1 .0 ∙ c .before .before .before .before .before .before .before .before .before .before .before .before .lay5 .kept .1 .1 .0 ∙ c .before .before .before .before .before .before .before .before .before .before .before .before .before .before .before .before .before .lay4 .kept .1 .1 .0 ∙ c .before .before .before .before .before .before .before .before .before .before .before .before .before .before .before .before .before .before .before .before .before .before .lay3 .kept .1 .1 .0 ∙ c .before .before .before .before .before .before .before .before .before .before .before .before .before .before .before .before .before .before .before .before .before .before .before .before .before .before .before .lay2 .kept .1 .1 .0 ∙ c .before .before .before .before .before .before .before .before .before .before .before .before .before .before .before .before .before .before .before .before .before .before .before .before .before .before .before .before .before .before .before .before .lay .kept .1 .1 .0
 
 returns : tie.Need-returns
-unfolding hasAt bytesOf lentBytes joined
+unfolding hasAt bytesOf lentBytes joined endsOf
 returns c =
     let s = c .before .before .before .before .before .before .before .before .before .before .before .before .before .before .before .before .before .before .before .before .before .before .before .before .before .before .before .before .before .before .before .before .before .before .before .before .before in
     let line = now (s .args .line) in
@@ -86,6 +86,7 @@ returns c =
     let fits : length (x1 ++ x2 ++ x3 ++ x4 ++ x5 ++ x6 ++ x7) ≤ length d = rw (← b7 .end) (omega (arith, s .pre, l1 .near, l2 .near, l3 .near, l4 .near, l5 .near, l6 .near, l7 .near)) in
     record {
       has = λ j. record { phone = l1 .has j; method = l2 .has j; random = l3 .has j; code = l4 .has j; stored = l5 .has j; fingerprint = l6 .has j; owner = l7 .has j };
+      ends = λ j. record { phone = b1 .end j; method = b2 .end j; random = b3 .end j; code = b4 .end j; stored = b5 .end j; fingerprint = b6 .end j; owner = b7 .end j };
       bytes = λ j. record {
         phone = lent-in d _ _ [] x1 (x2 ++ (x3 ++ (x4 ++ (x5 ++ (x6 ++ (x7)))))) _ _ (b7 .memory) (simp append-assoc) fits refl (b1 .end) j;
         method = lent-in d _ _ (x1) x2 (x3 ++ (x4 ++ (x5 ++ (x6 ++ (x7))))) _ _ (b7 .memory) (simp append-assoc) fits (b1 .end) (b2 .end) j;
