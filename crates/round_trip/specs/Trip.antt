@@ -1,0 +1,58 @@
+-- Demand 2's round trip over the calls: what encode_phone_validations answers, restore_phone_validations takes back, on any gate, and
+-- the other way round.
+use Prim.Native.Nat.{ℕ, _≤_, _<_}
+use mathlib.Core.Path.{_≡_}
+use mathlib.Core.Bool.{true, false}
+use mathlib.Core.List.{List, []}
+use lib.ListN.{length, take}
+use Rattle.phones.specs.Phones.{contains, phonesOf, listOf}
+use Rattle.saved_record.specs.declared.SavedRecord.{SavedRecord}
+use Rattle.saved_record.specs.SavedRecord.{recordOf}
+use Rattle.state.specs.declared.Validations.{Validations}
+use Rattle.state.specs.declared.Gate.{Gate}
+use Rattle.state.specs.declared.Answer.the-variants.{Done}
+use Rattle.state.specs.Answers.{numbered}
+use Rattle.state.specs.Parts.{withValidations}
+use Rattle.state.specs.Replies.{phoneAccessChanged}
+use Rattle.range.specs.Range.{inRange}
+use Rattle.answers.specs.Query.{plain, saved, encodePhoneValidations}
+use Rattle.definition.specs.Gate.{Given, change, ask, restorePhoneValidations, step}
+
+-- the gate answers done and this record
+abbrev pub Saves : Gate → SavedRecord → Type 0
+Saves g r = step g (ask encodePhoneValidations) .answer ≡ saved (record { answer = Done; stored = r })
+
+-- the bytes of a record that are in use
+abbrev pub used : SavedRecord → List ℕ
+used r = take (r .len) (r .bytes)
+
+-- what the gate gives if it is to restore these bytes
+abbrev pub restoring : Gate → List ℕ → Given
+restoring h bytes = step h (change (restorePhoneValidations bytes))
+
+-- the store of a car and these ids: the canonical list
+abbrev pub storeWith : List ℕ → List (List ℕ) → Validations
+storeWith car ids = record { car = car; phones = listOf ids }
+
+-- done, A V raised, and the gate as it was but for its store
+abbrev pub doneWith : Gate → Validations → Given
+doneWith h v = record { numbered = numbered Done; answer = plain Done; signals = phoneAccessChanged; gate = record { core = withValidations (h .core) v; code = h .code } }
+
+-- a store with something to save: one phone or more, none with an empty id; and what its type gives, car is a [u8; 32]
+pub record Storable (v : Validations) : Type 0 where
+  pub digest : length (v .car) ≡ 32
+  pub many : 0 < length (phonesOf (v .phones))
+  pub named : contains [] (phonesOf (v .phones)) ≡ false
+
+-- ---- the claims
+
+-- a gate answers a record, and any other gate takes its bytes back as the same car and ids
+abbrev pub SavedRestores : Type 0
+SavedRestores =
+    (g h : Gate) → inRange (g .core) ≡ true → inRange (h .core) ≡ true → Storable (g .core .validations)
+    → (r : SavedRecord) × Saves g r × (restoring h (used r) ≡ doneWith h (storeWith (g .core .validations .car) (phonesOf (g .core .validations .phones))))
+
+-- bytes that a gate restores are at most 1,090, and the gate that it leaves answers exactly these bytes and their number
+abbrev pub RestoredSaves : Type 0
+RestoredSaves =
+    (h : Gate) (bytes : List ℕ) → restoring h bytes .answer ≡ plain Done → (length bytes ≤ 1090) × Saves (restoring h bytes .gate) (recordOf bytes)

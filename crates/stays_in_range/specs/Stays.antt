@@ -1,0 +1,63 @@
+-- No call makes a gate that later calls answer 25: a new gate is in range, 25 handed back or not, and what is in range stays so.
+-- A list that stands for an array is asked to have the array's length where it matters, and only there: `Sized`. Nothing is asked of the
+-- arrays of the gate itself.
+use Prim.Native.Nat.{ℕ}
+use mathlib.Core.Path.{_≡_}
+use mathlib.Core.Bool.{true}
+use mathlib.Core.List.{List, [], _∷_}
+use lib.ListN.{length}
+use Rattle.frames.specs.declared.ProbeFrame.{ProbeFrame}
+use Rattle.state.specs.declared.Method.{Method}
+use Rattle.state.specs.declared.Settings.{Settings}
+use Rattle.state.specs.declared.Gate.{Gate}
+use Rattle.range.specs.Range.{inRange}
+use Rattle.definition.specs.Gate.{Call, newGateCall, change, openIdentityProbe, step}
+
+abbrev pub InRange : Gate → Type 0
+InRange g = inRange (g .core) ≡ true
+
+-- ---- what the types of the arguments give
+
+-- ShortId: bytes is a [u8; 32]
+abbrev pub IdsOf32 : List Method → Type 0
+IdsOf32 [] = Unit {0}
+IdsOf32 (m ∷ ms) = (length (m .id .bytes) ≡ 32) × IdsOf32 ms
+
+-- New gate: methods is a [Method; 8]
+pub record SizedMethods (methods : List Method) : Type 0 where
+  pub eight : length methods ≡ 8
+  pub ids : IdsOf32 methods
+
+-- Open probe: frames is a [ProbeFrame; 4]; of the other calls nothing is asked
+pub record Sized (k : Call) : Type 0 where
+  pub new : (settings : Settings) (methods : List Method) (count : ℕ) → k ≡ newGateCall settings methods count → SizedMethods methods
+  pub probe : (bus : ℕ) (frames : List ProbeFrame) (count clock : ℕ) → k ≡ change (openIdentityProbe bus frames count clock) → length frames ≡ 4
+
+abbrev pub AllSized : List Call → Type 0
+AllSized [] = Unit {0}
+AllSized (k ∷ ks) = Sized k × AllSized ks
+
+-- ---- the claims
+
+-- the gate that a call leaves
+abbrev pub after : Gate → Call → Gate
+after g k = step g k .gate
+
+-- the gate after calls, each lent the gate as the call before it left it
+abbrev pub afterAll : Gate → List Call → Gate
+afterAll g [] = g
+afterAll g (k ∷ ks) = afterAll (after g k) ks
+
+-- New gate makes a gate in range of any settings, methods and count, whatever gate was before it; where it answers 25, too
+abbrev pub NewInRange : Type 0
+NewInRange = (g : Gate) (settings : Settings) (methods : List Method) (count : ℕ) → SizedMethods methods → InRange (after g (newGateCall settings methods count))
+
+-- whatever the call, a gate in range is left in range
+abbrev pub StaysInRange : Type 0
+StaysInRange = (g : Gate) (k : Call) → Sized k → InRange g → InRange (after g k)
+
+-- so is every gate that any calls make from a new gate
+abbrev pub AlwaysInRange : Type 0
+AlwaysInRange =
+    (g : Gate) (settings : Settings) (methods : List Method) (count : ℕ) (ks : List Call) → SizedMethods methods → AllSized ks
+    → InRange (afterAll (after g (newGateCall settings methods count)) ks)
