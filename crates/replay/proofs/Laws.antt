@@ -23,7 +23,7 @@ use Rattle.player.specs.Played.{begun, failed, firstWord, playedAs, played, sta
 use Rattle.script.specs.Words.{before}
 use Rattle.script.proofs.Laws.{found}
 use Rattle.state.specs.declared.Gate.{Gate}
-use Rattle.turns.specs.Turns.{Turn, told, ran}
+use Rattle.turns.specs.Turns.{Turn, laid, ran}
 use Rattle.replay.specs.Script.{keptLen, keptIn, Line, short, long, lineIn, plus, lineGives, gateAfter, Reading, ended, grown, read, readingOf, nextLine}
 use Rattle.replay.specs.declared.Replay.{Replay}
 
@@ -40,7 +40,7 @@ first-room n room s h k = omega (arith, length-take-le n s h)
 -- ---- the gate after a line
 
 ran-gate : (l : Said) (g : Gate) (p q : Page) → ran l g p .gate ≡ ran l g q .gate
-unfolding told
+unfolding laid
 ran-gate (call c) g p q = refl
 ran-gate (counters next relocks) g p q = refl
 ran-gate state g p q = refl

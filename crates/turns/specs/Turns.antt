@@ -35,12 +35,12 @@ passed g at = record { gate = g; at = at; called = false }
 -- ---- one line that is a call
 
 -- what a call gives: its answer with the values, and the signals
-unfoldable pub told : Given → Page → Turn
-told d p = record { gate = d .gate; page = p ▸ shown (d .answer) ▸ signals (d .signals); called = true }
+unfoldable pub laid : Given → Page → Turn
+laid d p = record { gate = d .gate; page = p ▸ shown (d .answer) ▸ signals (d .signals); called = true }
 
 -- an answer that raises nothing
-abbrev pub quiet : Gate → Answer → Outcome
-quiet g a = record { answer = a; signals = noSignals; gate = g }
+abbrev pub answerAlone : Gate → Answer → Outcome
+answerAlone g a = record { answer = a; signals = noSignals; gate = g }
 
 -- what stands behind the answer of a query
 abbrev pub calm : Gate → Page → Turn
@@ -60,7 +60,7 @@ withCounters g next relocks = record {
 }
 
 abbrev pub ran : Line → Gate → Page → Turn
-ran (call c) g p = told (step g c) p
-ran (counters next relocks) g p = told (given (quiet (withCounters g next relocks) Done)) p
+ran (call c) g p = laid (step g c) p
+ran (counters next relocks) g p = laid (given (answerAlone (withCounters g next relocks) Done)) p
 ran state g p = record { gate = g; page = Whole.gate g p; called = false }
 ran unknown g p = record { gate = g; page = p; called = false }

@@ -11,7 +11,7 @@ ghost use Rattle.definition.specs.Gate.{given};
 ghost use Rattle.items.specs.Bytes.{lentBytes};
 ghost use Rattle.lines.specs.Page.{page};
 ghost use Rattle.calls.specs.Calls.{lineOf};
-ghost use Rattle.turns.specs.Turns.{turnOf, quiet, told, calm, withCounters, ran, passed};
+ghost use Rattle.turns.specs.Turns.{turnOf, answerAlone, laid, calm, withCounters, ran, passed};
 
 // The gate after a line, the place after what was laid down, and whether the line was a call.
 pub struct Played {
@@ -22,7 +22,7 @@ pub struct Played {
 
 // An answer that changes nothing and raises nothing.
 fn no_signals(g: Gate, answer: Answer) -> Outcome
-    ensures { λ r. ⌜ r ≡ quiet g answer ⌝ }
+    ensures { λ r. ⌜ r ≡ answerAlone g answer ⌝ }
 {
     let signals = state::replies::no_signals();
     Outcome {
@@ -33,7 +33,7 @@ fn no_signals(g: Gate, answer: Answer) -> Outcome
 }
 
 fn put_outcome(o: Outcome, out: &mut [u8], at: usize) -> Played
-    ensures { λ r. ⌜ turnOf r (now (out .exit)) ≡ told (given o) (page (now (out .entry)) at) ⌝ }
+    ensures { λ r. ⌜ turnOf r (now (out .exit)) ≡ laid (given o) (page (now (out .entry)) at) ⌝ }
 {
     let a = o.answer;
     let k = lines::answer::put_answer(out, at, a);

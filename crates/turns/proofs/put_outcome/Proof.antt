@@ -1,4 +1,4 @@
-use Rattle.turns.specs.Turns.{told}
+use Rattle.turns.specs.Turns.{laid}
 use borrow.Author.Needs.{needs}
 use Rattle.turns.proofs.put_outcome.Statement.{statement}
 use Rattle.turns.proofs.put_outcome.Tie as tie
@@ -13,7 +13,7 @@ same-length : tie.Need-same-length
 same-length c = search needs
 
 returns : tie.Need-returns
-unfolding told
+unfolding laid
 returns c = rw (← c .before .before .before .before .before .before .before .before .put-answer .ensures, ← c .before .before .before .put-signals .ensures)
 
 pub put-outcome-spec : {M : Type 1} → statement M

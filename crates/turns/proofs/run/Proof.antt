@@ -1,6 +1,6 @@
 use mathlib.Core.Logic.{⊎-elim}
 use Rattle.definition.specs.Gate.{step}
-use Rattle.turns.specs.Turns.{told}
+use Rattle.turns.specs.Turns.{laid}
 use borrow.Author.Needs.{needs}
 use Rattle.turns.proofs.run.Statement.{statement}
 use Rattle.turns.proofs.run.Tie as tie
@@ -72,7 +72,7 @@ same-length : tie.Need-same-length
 same-length c = search needs
 
 returns : tie.Need-returns
-unfolding told step
+unfolding laid step
 returns c = rw (c .before .before .before .before .before .before .before .before .before .name7 .given .1, ← c .before .before .before .before .before .before .put-long .ensures) (c .before .before .put-calm .ensures)
 
 enum-told-3 : tie.Need-enum-told-3
