@@ -34,7 +34,8 @@ saves : (g : Gate) → inRange (g .core) ≡ true → Saves g (recordFor (g .cor
 unfolding step answerTo recordAnswer
 saves g r = rw r
 
-restores : (h : Gate) (bytes car : List ℕ) (ids : List (List ℕ)) → inRange (h .core) ≡ true → decoded bytes ≡ ok car ids → restoring h bytes ≡ doneWith h (storeWith car ids)
+restores : (h : Gate) (bytes car : List ℕ) (ids : List (List ℕ)) → inRange (h .core) ≡ true → decoded bytes ≡ ok car ids
+    → restoring h bytes ≡ doneWith h (storeWith car ids)
 unfolding step changed served fill reply restore restored phoneAccessChanged
 restores h bytes car ids r e = rw (r, e)
 
@@ -44,7 +45,9 @@ none-empty : (ids : List (List ℕ)) → contains [] ids ≡ false → anyEmpty 
 unfolding contains someOf anyEmpty sameBytes
 none-empty [] h = refl
 none-empty ([] ∷ ids) h = h
-none-empty ((x ∷ p) ∷ ids) h = let some : eqb (length (x ∷ p)) 0 ≡ false = ne-eqb (length (x ∷ p)) 0 (λ (e : length (x ∷ p) ≡ 0). omega arith) in rw some (none-empty ids h)
+none-empty ((x ∷ p) ∷ ids) h =
+    let some : eqb (length (x ∷ p)) 0 ≡ false = ne-eqb (length (x ∷ p)) 0 (λ (e : length (x ∷ p) ≡ 0). omega arith) in
+    rw some (none-empty ids h)
 
 none-long : (ids : List (List ℕ)) → Short ids → anyLong ids ≡ false
 unfolding anyLong

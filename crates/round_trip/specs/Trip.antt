@@ -2,7 +2,7 @@
 -- the other way round.
 use Prim.Native.Nat.{ℕ, _≤_, _<_}
 use mathlib.Core.Path.{_≡_}
-use mathlib.Core.Bool.{true, false}
+use mathlib.Core.Bool.{false}
 use mathlib.Core.List.{List, []}
 use lib.ListN.{length, take}
 use Rattle.phones.specs.Phones.{contains, phonesOf, listOf}
@@ -14,9 +14,9 @@ use Rattle.state.specs.declared.Answer.the-variants.{Done}
 use Rattle.state.specs.Answers.{numbered}
 use Rattle.state.specs.Parts.{withValidations}
 use Rattle.state.specs.Replies.{phoneAccessChanged}
-use Rattle.range.specs.Range.{inRange}
 use Rattle.answers.specs.Query.{plain, saved, encodePhoneValidations}
 use Rattle.definition.specs.Gate.{Given, change, ask, restorePhoneValidations, step}
+use Rattle.stays_in_range.specs.Stays.{InRange}
 
 -- the gate answers done and this record
 abbrev pub Saves : Gate → SavedRecord → Type 0
@@ -30,13 +30,18 @@ used r = take (r .len) (r .bytes)
 abbrev pub restoring : Gate → List ℕ → Given
 restoring h bytes = step h (change (restorePhoneValidations bytes))
 
--- the store of a car and these ids: the canonical list
+-- the store of a car and these ids, in a canonical list: byte for byte the store that they are of, if its list is canonical
 abbrev pub storeWith : List ℕ → List (List ℕ) → Validations
 storeWith car ids = record { car = car; phones = listOf ids }
 
 -- done, A V raised, and the gate as it was but for its store
 abbrev pub doneWith : Gate → Validations → Given
-doneWith h v = record { numbered = numbered Done; answer = plain Done; signals = phoneAccessChanged; gate = record { core = withValidations (h .core) v; code = h .code } }
+doneWith h v = record {
+  numbered = numbered Done;
+  answer = plain Done;
+  signals = phoneAccessChanged;
+  gate = record { core = withValidations (h .core) v; code = h .code };
+}
 
 -- a store with something to save: one phone or more, none with an empty id; and what its type gives, car is a [u8; 32]
 pub record Storable (v : Validations) : Type 0 where
@@ -46,10 +51,10 @@ pub record Storable (v : Validations) : Type 0 where
 
 -- ---- the claims
 
--- a gate answers a record, and any other gate takes its bytes back as the same car and ids
+-- a gate answers a record, and any gate takes its bytes back as the same car and ids
 abbrev pub SavedRestores : Type 0
 SavedRestores =
-    (g h : Gate) → inRange (g .core) ≡ true → inRange (h .core) ≡ true → Storable (g .core .validations)
+    (g h : Gate) → InRange g → InRange h → Storable (g .core .validations)
     → (r : SavedRecord) × Saves g r × (restoring h (used r) ≡ doneWith h (storeWith (g .core .validations .car) (phonesOf (g .core .validations .phones))))
 
 -- bytes that a gate restores are at most 1,090, and the gate that it leaves answers exactly these bytes and their number

@@ -18,15 +18,15 @@ use Rattle.frames.specs.Frames.{busExists}
 use Rattle.state.specs.declared.Kind.{Kind}
 use Rattle.state.specs.declared.Kind.the-variants.{CodeEntry, InCarAction}
 use Rattle.state.specs.declared.Status.{Status}
-use Rattle.state.specs.declared.Status.the-variants.{Cancelled, TimedOut}
-use Rattle.state.specs.declared.Session.{Session}
+use Rattle.state.specs.declared.Status.the-variants.{Succeeded, Cancelled, TimedOut}
+use Rattle.state.specs.declared.Validation.{Validation}
 use Rattle.state.specs.declared.Core.{Core}
 use Rattle.state.specs.declared.Answer.{Answer}
 use Rattle.state.specs.declared.Signals.{Signals}
 use Rattle.state.specs.declared.Mark.{Mark}
 use Rattle.state.specs.declared.Said.{Said}
 use Rattle.state.specs.Running.{isRunning, inProgress, codeInProgress, methodAt}
-use Rattle.state.specs.Parts.{withPaired}
+use Rattle.state.specs.Parts.{withPaired, withValidation}
 use Rattle.state.specs.Replies.{leave, quiet, reply, finish}
 use Rattle.state.specs.Checks.{Check, _refuses_, checked, unmet}
 use Rattle.range.specs.Range.{within, settingsFit, methodsFit, triesFit, sessionFits, windowFits}
@@ -156,9 +156,16 @@ module _ (c : Core) (h : Fitting c) where
 
   -- ---- sessions
 
+  put-session : (v : Validation) → sessionFits (c .settings) (c .methods) (v .session) ≡ true → Fitting (withValidation c v)
+  put-session v e = made _ set methods paired listed peer e window
+
+  put-ended : (v : Validation) → v .session .present ≡ c .validation .session .present → v .session .phone ≡ c .validation .session .phone
+      → v .session .method ≡ c .validation .session .method → isRunning (v .session .status) ≡ false → Fitting (withValidation c v)
+  put-ended v p i a e = put-session v (ended-fits (c .settings) (c .methods) (c .validation .session) latest (v .session) p i a e)
+
   fit-end : (a : Answer) (status : Status) (clock : ℕ) → isRunning status ≡ false → Fits (Validation.endSession c a status clock)
   unfolding Validation.endSession endedAs
-  fit-end a status clock e = fit-finish _ a _ (made _ set methods paired listed peer (ended-fits (c .settings) (c .methods) (c .validation .session) latest _ refl refl refl e) window)
+  fit-end a status clock e = fit-finish _ a _ (put-ended _ refl refl refl e)
 
   fit-ticking : (clock : ℕ) (a : Answer) (o : Said) → Fits o → Fits (Validation.ticking c clock a o (lapseOf c clock))
   unfolding lapseOf
@@ -174,9 +181,10 @@ module _ (c : Core) (h : Fitting c) where
   fit-succeed : (a : Answer) (clock : ℕ) → inProgress (c .validation .session) ≡ true → Fits (Validation.succeed c a clock)
   unfolding Validation.succeed Validation.succeededCore inProgress endedAs
   fit-succeed a clock r =
-      let p = phone-fits (c .settings) (c .methods) (c .validation .session) latest (and-eq-true-iff (c .validation .session .present) _ .0 r .0) in
-      fit-finish _ a _
-      (made _ set methods paired (validate-range (c .validations) (c .validation .session .car) (c .validation .session .phone) listed p) peer (ended-fits (c .settings) (c .methods) (c .validation .session) latest _ refl refl refl refl) window)
+      let s = c .validation .session in
+      let p = phone-fits (c .settings) (c .methods) s latest (and-eq-true-iff (s .present) _ .0 r .0) in
+      let ended = put-ended (record { session = endedAs s Succeeded clock; «cooldown_until» = c .validation .«cooldown_until»; next = c .validation .next }) refl refl refl refl in
+      fit-finish _ a _ (made _ set methods paired (validate-range (c .validations) (s .car) (s .phone) listed p) peer (ended .session) window)
 
   fit-complete : (number clock : ℕ) → Fits (Validation.complete c number clock)
   unfolding Validation.complete Validation.completed Validation.isAction
@@ -195,11 +203,8 @@ module _ (c : Core) (h : Fitting c) where
   unfolding Validation.wrong Validation.triedCore Validation.failedCore Trust.notified endedAs triedOnce
   fit-wrong clock =
       fit-cond (ltb 1 (c .validation .session .tries)) _ _
-      (λ e. fit-reply _ _ _ (made _ set methods paired listed peer (tried-fits (c .settings) (c .methods) s latest e) window))
-      (λ e. fit-finish _ _ _ (made _ set methods paired listed peer (ended-fits (c .settings) (c .methods) s latest _ refl refl refl refl) window))
-    where
-      s : Session
-      s = c .validation .session
+      (λ e. fit-reply _ _ _ (put-session _ (tried-fits (c .settings) (c .methods) (c .validation .session) latest e)))
+      (λ e. fit-finish _ _ _ (put-ended _ refl refl refl refl))
 
   fit-judged : (clock : ℕ) (right : Bool) (k : Kind) → inProgress (c .validation .session) ≡ true → Fits (Validation.judgeAs c clock right k)
   unfolding Validation.judge Validation.rightCode Trust.notified
@@ -221,7 +226,7 @@ module _ (c : Core) (h : Fitting c) where
   -- 18 and 1 refuse what would not fit; a new session has all the tries that are set
   fit-begin : (phone : List ℕ) (at clock : ℕ) (mark : Mark) → length phone ≤ 32 → ltb at (c .methods .count) ≡ true → Fits (Validation.begin c phone at clock mark)
   unfolding Validation.begin Validation.newSession sessionFits triesFit
-  fit-begin phone at clock mark p m = record { fits = made _ set methods paired listed peer (rw (id-range phone p, m) (go (codeInProgress (c .methods) (Validation.newSession c phone at clock)))) window }
+  fit-begin phone at clock mark p m = record { fits = put-session _ (rw (id-range phone p, m) (go (codeInProgress (c .methods) (Validation.newSession c phone at clock)))) }
     where
       go : (r : Bool) → cond r (within 1 (c .settings .tries) (c .settings .tries)) true ≡ true
       go true = is-within 1 (c .settings .tries) (c .settings .tries) (tries-set (c .settings) set) (omega arith)

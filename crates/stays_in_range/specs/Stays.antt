@@ -1,6 +1,6 @@
--- No call makes a gate that later calls answer 25: a new gate is in range, 25 handed back or not, and what is in range stays so.
--- A list that stands for an array is asked to have the array's length where it matters, and only there: `Sized`. Nothing is asked of the
--- arrays of the gate itself.
+-- No call makes a gate that later calls would answer with 25: a new gate is in range, with 25 too, and a gate in range stays so.
+-- A list that stands for an array is asked to have the array's length where it matters, and only there: `Sized` (proofs/Needed.antt has
+-- what happens else). Nothing is asked of the arrays of the gate itself.
 use Prim.Native.Nat.{ℕ}
 use mathlib.Core.Path.{_≡_}
 use mathlib.Core.Bool.{true}
@@ -28,7 +28,7 @@ pub record SizedMethods (methods : List Method) : Type 0 where
   pub eight : length methods ≡ 8
   pub ids : IdsOf32 methods
 
--- Open probe: frames is a [ProbeFrame; 4]; of the other calls nothing is asked
+-- New gate: as above. Open probe: frames is a [ProbeFrame; 4]. Of the other calls nothing is asked
 pub record Sized (k : Call) : Type 0 where
   pub new : (settings : Settings) (methods : List Method) (count : ℕ) → k ≡ newGateCall settings methods count → SizedMethods methods
   pub probe : (bus : ℕ) (frames : List ProbeFrame) (count clock : ℕ) → k ≡ change (openIdentityProbe bus frames count clock) → length frames ≡ 4
