@@ -13,7 +13,8 @@ use Rattle.frames.specs.declared.TxClass.the-variants.{Platform}
 use Rattle.draw.specs.declared.Drawn.{Drawn}
 use Rattle.draw.specs.Draw.{drawn}
 use Rattle.saved_record.specs.SavedRecord.{recordOf}
-use Rattle.listing.specs.Listing.{ascii, lines}
+use Rattle.ascii.specs.Ascii.{ascii}
+use Rattle.listing.specs.Listing.{lines}
 use Rattle.state.specs.declared.Kind.the-variants.{CodeEntry}
 use Rattle.state.specs.declared.Status.{Status}
 use Rattle.state.specs.declared.Status.the-variants.{InProgress, Succeeded, Failed, TimedOut}
@@ -27,7 +28,7 @@ use Rattle.policy_changes.specs.Changes.{withIdentity}
 use Rattle.probe_window.specs.Window.{isBusAwake, isOpen}
 use Rattle.answers.specs.Query.{Reply, saved, isCanBusListenOnly, sessionFor, encodePhoneValidations}
 use Rattle.new_gate.specs.New.{newGate, leastSettings}
-use Rattle.definition.specs.Gate.{Call, newGateCall, startValidation, submitValidationCode, change, ask, tickValidation, confirmCarIdentity, openIdentityProbe, allowCanTx, heardCanFrame, restorePhoneValidations, step}
+use Rattle.definition.specs.Gate.{Call, newGateCall, startValidation, submitValidationCode, change, ask, tickValidation, confirmCarIdentity, openIdentityProbe, allowCanTx, heardCanFrame, restorePhoneValidations, step, afterAll}
 
 -- ---- a row: what is looked at, and what 01 says of it
 
@@ -82,21 +83,17 @@ settings = record { digits = 4; tries = 3; session = 60_000; cooldown = 30_000; 
 abbrev pub method : Method
 method = record { id = idOf (ascii "code"); kind = CodeEntry; «needs_approval» = false }
 
--- a gate after calls, and its answer to one more
-abbrev pub after : Gate → List Call → Gate
-after g [] = g
-after g (c ∷ cs) = after (step g c .gate) cs
-
+-- the answer of a gate to a call after others
 abbrev pub answerAfter : Gate → List Call → Call → Observed
-answerAfter g cs c = answer (step (after g cs) c .numbered)
+answerAfter g cs c = answer (step (afterAll g cs) c .numbered)
 
 -- a new gate; it does not matter on which gate New gate is called
 abbrev pub new : Gate
-new = after (newGate leastSettings [] 0 .gate) (newGateCall settings (method ∷ []) 1 ∷ [])
+new = afterAll (newGate leastSettings [] 0 .gate) (newGateCall settings (method ∷ []) 1 ∷ [])
 
 -- the platform is confirmed and the car is not
 abbrev pub platform : Gate
-platform = after new (change confirmCarIdentity ∷ [])
+platform = afterAll new (change confirmCarIdentity ∷ [])
 
 -- the car is known too. It is set by hand: the call would take the SHA-256 of a fingerprint, and no case is about that
 abbrev pub knownCar : Gate
@@ -121,7 +118,7 @@ start clock = startWith (0xD2 ∷ 0x04 ∷ 0x00 ∷ 0x00 ∷ []) clock
 abbrev pub draws : List ℕ → String → List Row
 draws random digits =
     (draw (drawn random (settings .digits)) gives draw (record { ok = true; code = nine digits })) ∷
-    (code (after knownCar (startWith random 1_000 ∷ []) .code) gives code (nine digits)) ∷ []
+    (code (afterAll knownCar (startWith random 1_000 ∷ []) .code) gives code (nine digits)) ∷ []
 
 -- P1 D2 04 00 00 draws 1234. P2 FF FF FF FF 07 00 00 00 draws 0007. P3 7F E3 FF FF draws 9999. P4 80 E3 FF FF alone gives 19.
 abbrev pub p1-p4 : List Row
@@ -138,7 +135,7 @@ typed bytes = answerAfter knownCar (start 1_000 ∷ []) (submitValidationCode ph
 -- P5 code 1234: " 1234" and C2 A0 before 1234 are right; "12 34" is wrong.
 abbrev pub p5 : List Row
 p5 =
-    (code (after knownCar (start 1_000 ∷ []) .code) gives code (nine "1234")) ∷
+    (code (afterAll knownCar (start 1_000 ∷ []) .code) gives code (nine "1234")) ∷
     (typed (ascii " 1234") gives says (sessionOf Succeeded 3 0 0)) ∷
     (typed (0xC2 ∷ 0xA0 ∷ ascii "1234") gives says (sessionOf Succeeded 3 0 0)) ∷
     (typed (ascii "12 34") gives refused 10 (sessionOf InProgress 2 59 0)) ∷ []
@@ -178,7 +175,7 @@ sendEntry clock = change (allowCanTx 0 (record { bus = 0; id = entry .id; «data
 
 -- whether the bus is awake; an opening on one that is asleep is refused by 14
 abbrev pub awake : List Call → ℕ → Observed
-awake cs clock = truth (isBusAwake (after platform cs .core .probe .marks) 0 clock)
+awake cs clock = truth (isBusAwake (afterAll platform cs .core .probe .marks) 0 clock)
 
 -- the mark of the first time is not 0, and by it the bus is awake at the second
 abbrev pub heardTwice : List Call
@@ -191,9 +188,9 @@ p8-p9 =
     (answerAfter platform (heard 0 ∷ []) (openProbe 1_000) gives says done) ∷
     (awake (heard 0 ∷ []) 1_001 gives truth false) ∷
     (answerAfter platform (heard 0 ∷ []) (openProbe 1_001) gives refused 14 noValue) ∷
-    (mark (getD (after platform (heard 4_294_967_294 ∷ []) .core .probe .marks) 0 0) gives mark 4_294_967_295) ∷
+    (mark (getD (afterAll platform (heard 4_294_967_294 ∷ []) .core .probe .marks) 0 0) gives mark 4_294_967_295) ∷
     (awake (heard 4_294_967_294 ∷ []) 4_294_967_295 gives truth true) ∷
-    (mark (getD (after platform heardTwice .core .probe .marks) 0 0) gives mark 0) ∷
+    (mark (getD (afterAll platform heardTwice .core .probe .marks) 0 0) gives mark 0) ∷
     (awake heardTwice 4_294_967_295 gives truth false) ∷
     (answerAfter platform heardTwice (openProbe 4_294_967_295) gives refused 14 noValue) ∷ []
 
@@ -203,7 +200,7 @@ opened = heard 100 ∷ openProbe 100 ∷ []
 -- at a time: whether the window is open, whether the frame may be sent, whether the bus is listen-only
 abbrev pub windowAt : ℕ → Bool → Values → Values → List Row
 windowAt clock isOpenThen maySend isListenOnly =
-    (truth (isOpen (after platform opened .core .policy) (after platform opened .core .probe) 0 clock) gives truth isOpenThen) ∷
+    (truth (isOpen (afterAll platform opened .core .policy) (afterAll platform opened .core .probe) 0 clock) gives truth isOpenThen) ∷
     (answerAfter platform opened (sendEntry clock) gives says maySend) ∷
     (answerAfter platform opened (ask (isCanBusListenOnly 0 clock)) gives says isListenOnly) ∷ []
 
@@ -227,7 +224,7 @@ abbrev pub restore : List ℕ → Call
 restore bytes = change (restorePhoneValidations bytes)
 
 abbrev pub writtenAfter : List Call → Observed
-writtenAfter cs = reply (step (after new cs) (ask encodePhoneValidations) .answer)
+writtenAfter cs = reply (step (afterAll new cs) (ask encodePhoneValidations) .answer)
 
 -- P12 the record above; P13 the same plus one byte gives 22, whatever the byte, and empties the store.
 abbrev pub p12-p13 : ℕ → List Row

@@ -1,7 +1,7 @@
 -- The gate: every call of document 01, and the one definition of what each gives, `step`.
 use mathlib.Core.Path.{_≡_}
 use mathlib.Core.Bool.{Bool, true, false, cond}
-use mathlib.Core.List.{List, []}
+use mathlib.Core.List.{List, [], _∷_}
 use Prim.Native.Nat.{ℕ}
 use lib.Dec.{ltb}
 use lib.ListN.{length}
@@ -132,6 +132,15 @@ step g (submitValidationCode phone typed clock) =
     given (fill (g .code) noCode (served (g .core) (Validation.submit (g .core) phone clock (isText typed) (right (g .code) (g .core .settings .digits) typed))))
 step g (change k) = given (fill (g .code) noCode (served (g .core) (changed (g .core) k)))
 step g (ask q) = asked g (answerTo (g .core) (g .code) q)
+
+-- the gate that a call leaves
+abbrev pub after : Gate → Call → Gate
+after g k = step g k .gate
+
+-- the gate after calls, each lent the gate as the call before it left it
+abbrev pub afterAll : Gate → List Call → Gate
+afterAll g [] = g
+afterAll g (k ∷ ks) = afterAll (after g k) ks
 
 -- New gate gives this outcome, whatever gate was before it
 abbrev pub NewFrom : Outcome → Settings → List Method → ℕ → Type 0

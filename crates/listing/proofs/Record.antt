@@ -8,6 +8,7 @@ use borrow.Author.Tests.{ltb-false}
 use lib.Dec.{ltb}
 use lib.ListN.{length, take, drop, replicate, length-append, length-replicate}
 use lib.Seq.{drop-append-add, drop-append-seam, drop-drop, length-take-le, take-append-seam}
+use Rattle.ascii.specs.Ascii.{ascii}
 use Rattle.arrays.proofs.Laws.{padded-length}
 use Rattle.decimal.specs.Decimal.{decimalOf}
 use Rattle.decimal.proofs.Laws.{decimal-length}
@@ -21,7 +22,7 @@ use Rattle.saved_record.specs.declared.RecordVerdict.the-variants.{Restored, Ma
 use Rattle.saved_record.specs.SavedRecord.{Reading, malformed, tooLarge, ok, field, fields, encoded, anyLong, overLimits, decoded, refusal, restored}
 use Rattle.saved_record.proofs.RoundTrip.{accepted-well-formed}
 use Rattle.listing.specs.declared.Listing.{Listing}
-use Rattle.listing.specs.Listing.{ascii, line, phoneLines, acceptedLines, refusedLines, linesOf, lines, listed, listingOf}
+use Rattle.listing.specs.Listing.{line, phoneLines, acceptedLines, refusedLines, linesOf, lines, listed, listingOf}
 use Rattle.listing.specs.Walk.{Wrote, idsFrom}
 use Rattle.listing.proofs.Laws.{line-length, wrote-more, wrote-listed}
 

@@ -5,11 +5,12 @@ use Prim.Native.Nat.{ℕ, zero, suc, _+_, _-_, _≤_, _<_}
 use native.Mathlib.Numerals.{sub-one}
 use native.Mathlib.Omega.{arith}
 use lib.ListN.{length, take, drop, length-append}
+use Rattle.ascii.specs.Ascii.{ascii}
 use Rattle.arrays.specs.Arrays.{put}
 use Rattle.hex.specs.Hex.{hexOf}
 use Rattle.reader.specs.declared.Field.the-variants.{Whole, Short, End}
 use Rattle.reader.specs.Reader.{fieldAt}
-use Rattle.listing.specs.Listing.{ascii, line, phoneLines}
+use Rattle.listing.specs.Listing.{line, phoneLines}
 use Rattle.listing.specs.Walk.{Wrote, idsFrom}
 use Rattle.listing.proofs.Laws.{put-nil, put-put}
 

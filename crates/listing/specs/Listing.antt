@@ -1,21 +1,15 @@
 -- What the listing program prints: document 01, "The listing program reads a record of at most 2 KiB".
 use mathlib.Core.Bool.{cond}
 use mathlib.Core.List.{List, [], _∷_, _++_}
-use Prim.Native.Char.{code}
 use Prim.Native.Nat.{ℕ}
-use Prim.Native.String.{String, [] as []ˢ, _∷_ as _∷ˢ_}
 use lib.Dec.{ltb}
 use lib.ListN.{length}
 use Rattle.arrays.specs.Arrays.{padded}
+use Rattle.ascii.specs.Ascii.{ascii}
 use Rattle.decimal.specs.Decimal.{decimalOf}
 use Rattle.hex.specs.Hex.{hexOf}
 use Rattle.saved_record.specs.SavedRecord.{Reading, malformed, tooLarge, ok, decoded}
 use Rattle.listing.specs.declared.Listing.{Listing}
-
--- the bytes of an ASCII text
-abbrev pub ascii : String → List ℕ
-ascii []ˢ = []
-ascii (c ∷ˢ s) = code c ∷ ascii s
 
 -- "Each line ends with byte 10."
 unfoldable pub line : List ℕ → List ℕ → List ℕ

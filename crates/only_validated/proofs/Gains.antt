@@ -52,9 +52,9 @@ use Rattle.session.specs.Session.{isOf, lostReadWrite, noteAt, cannotGoOn, laps
 use Rattle.validation.specs.Calls as Validation
 use Rattle.methods.specs.Notes as Methods
 use Rattle.new_gate.specs.New.{newMethods, newCore, leastSettings, madeGate, newGate}
-use Rattle.definition.specs.Gate.{Change, Call, isLent, changed, step}
+use Rattle.definition.specs.Gate.{Change, Call, isLent, changed, step, after}
 use Rattle.definition.specs.Gate as Gate
-use Rattle.only_validated.specs.Row.{listed, Listed, NotListed, session, Validates, byCode, byAction, byRecord, after}
+use Rattle.only_validated.specs.Row.{listed, Listed, NotListed, session, Validates, byCode, byAction, byRecord}
 use Rattle.only_validated.proofs.Stores.{untrue, unlisted, Less, less-same, none-listed, less-none, less-kept, validate-is, restored-is}
 
 -- ---- an operation by which nobody becomes listed

@@ -44,8 +44,8 @@ use Rattle.answers.specs.Query as Query
 use Rattle.answers.specs.Query.{Reply, plain}
 use Rattle.new_gate.specs.New as New
 use Rattle.definition.specs.Gate as Gate
-use Rattle.definition.specs.Gate.{Call, startValidation, submitValidationCode, change, ask, step}
-use Rattle.only_validated.specs.Row.{carNow, afterAll, WasValidated}
+use Rattle.definition.specs.Gate.{Call, startValidation, submitValidationCode, change, ask, step, afterAll}
+use Rattle.only_validated.specs.Row.{carNow, WasValidated}
 use Rattle.only_validated.proofs.Proved.{only-validated}
 
 -- ---- a new gate: 4 digits, 3 tries, a method of code entry and one of an in-car action

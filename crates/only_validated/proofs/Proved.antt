@@ -1,6 +1,7 @@
 -- The row.
 use Rattle.new_gate.specs.New.{newGate}
-use Rattle.only_validated.specs.Row.{OnlyValidated, carNow, afterAll}
+use Rattle.definition.specs.Gate.{afterAll}
+use Rattle.only_validated.specs.Row.{OnlyValidated, carNow}
 use Rattle.only_validated.proofs.Frames.{command, platform}
 use Rattle.only_validated.proofs.Gains.{new-none, becomes}
 use Rattle.only_validated.proofs.Runs.{was-validated}

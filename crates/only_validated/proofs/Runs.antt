@@ -5,8 +5,8 @@ use mathlib.Core.Bool.{Bool, true, false}
 use mathlib.Core.List.{List, [], _∷_}
 use mathlib.Core.Logic.{_⊎_, inl, inr}
 use Rattle.state.specs.declared.Gate.{Gate}
-use Rattle.definition.specs.Gate.{Call}
-use Rattle.only_validated.specs.Row.{listed, Listed, NotListed, after, afterAll, Stays, last, more, WasValidated, here, later}
+use Rattle.definition.specs.Gate.{Call, after, afterAll}
+use Rattle.only_validated.specs.Row.{listed, Listed, NotListed, Stays, last, more, WasValidated, here, later}
 use Rattle.only_validated.proofs.Stores.{unlisted}
 use Rattle.only_validated.proofs.Gains.{becomes}
 

@@ -29,7 +29,7 @@ use Rattle.probe_window.specs.declared.Unsent.the-variants.{At}
 use Rattle.probe_window.specs.Window.{isOpen, unsentIn}
 use Rattle.answers.specs.Query.{plain}
 use Rattle.new_gate.specs.New.{newGate}
-use Rattle.definition.specs.Gate.{Call, change, submitValidationCode, completeValidationAction, restorePhoneValidations, allowCanTx, step}
+use Rattle.definition.specs.Gate.{Call, change, submitValidationCode, completeValidationAction, restorePhoneValidations, allowCanTx, step, after, afterAll}
 
 -- ---- who is listed
 
@@ -102,15 +102,6 @@ pub data Validates (g : Gate) (car phone : List ℕ) : Call → Type 0 where
       → Validates g car phone (change (restorePhoneValidations bytes))
 
 -- ---- runs
-
--- the gate that a call leaves
-abbrev pub after : Gate → Call → Gate
-after g k = step g k .gate
-
--- the gate after calls, each lent the gate as the call before it left it
-abbrev pub afterAll : Gate → List Call → Gate
-afterAll g [] = g
-afterAll g (k ∷ ks) = afterAll (after g k) ks
 
 -- the phone is listed for the car at every gate of the run, first and last included
 pub data Stays (car phone : List ℕ) : Gate → List Call → Type 0 where

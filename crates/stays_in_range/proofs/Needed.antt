@@ -19,9 +19,8 @@ use Rattle.probe_window.specs.Window as Window
 use Rattle.can_probe.specs.Calls as Probe
 use Rattle.new_gate.specs.New.{leastSettings}
 use Rattle.new_gate.specs.New as New
-use Rattle.definition.specs.Gate.{newGateCall, change, confirmCarIdentity, heardCanFrame, openIdentityProbe}
+use Rattle.definition.specs.Gate.{newGateCall, change, confirmCarIdentity, heardCanFrame, openIdentityProbe, after, afterAll}
 use Rattle.definition.specs.Gate as Gate
-use Rattle.stays_in_range.specs.Stays.{after, afterAll}
 
 -- an id of length 1 without a byte
 abbrev method : Method

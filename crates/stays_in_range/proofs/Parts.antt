@@ -25,6 +25,7 @@ use Rattle.range.specs.Range.{within, settingsFit, methodsFit, phonesFit, tries
 use Rattle.validations.specs.Store.{noValidations, storeOf, validate}
 use Rattle.probe_window.specs.Window.{newWindow}
 use Rattle.session.specs.Session.{triedOnce}
+use Rattle.range.proofs.Laws.{within-is}
 
 -- ---- the parts
 
@@ -56,15 +57,6 @@ unfolding inRange phonesFit
 in-range c h = rw (h .settings, h .methods, h .paired, h .validated, h .peer, h .session, h .window)
 
 -- ---- numbers
-
-pub within-is : (low high x : ℕ) → within low high x ≡ true → (low ≤ x) × (x ≤ high)
-unfolding within
-within-is low high x = go (ltb x low) refl (ltb high x) refl
-  where
-    go : (a : Bool) → ltb x low ≡ a → (b : Bool) → ltb high x ≡ b → cond a false (cond b false true) ≡ true → (low ≤ x) × (x ≤ high)
-    go false p false q e = (ltb-false x low p, ltb-false high x q)
-    go false p true q e = absurd (false≢true e)
-    go true p b q e = absurd (false≢true e)
 
 pub is-within : (low high x : ℕ) → low ≤ x → x ≤ high → within low high x ≡ true
 unfolding within

@@ -26,10 +26,11 @@ use Rattle.state.specs.Running.{noMethod, cleanMethod}
 use Rattle.state.specs.Replies.{fill}
 use Rattle.range.specs.Range.{within, allOf, methodFits, allFit, methodsIn, methodsFit, settingsFit, sessionFits, windowFits, inRange, served}
 use Rattle.new_gate.specs.New.{newMethods, newCore, leastSettings, madeGate, newGate}
-use Rattle.definition.specs.Gate.{Call, isLent, step}
+use Rattle.definition.specs.Gate.{Call, isLent, step, after, afterAll}
 use Rattle.definition.specs.Gate as Gate
-use Rattle.stays_in_range.specs.Stays.{IdsOf32, SizedMethods, AllSized, after, afterAll, InRange, NewInRange, StaysInRange, AlwaysInRange}
-use Rattle.stays_in_range.proofs.Parts.{fitting, in-range, within-is, empty-range}
+use Rattle.range.proofs.Laws.{within-is}
+use Rattle.stays_in_range.specs.Stays.{IdsOf32, SizedMethods, AllSized, InRange, NewInRange, StaysInRange, AlwaysInRange}
+use Rattle.stays_in_range.proofs.Parts.{fitting, in-range, empty-range}
 use Rattle.stays_in_range.proofs.Calls.{Fits, fit-start, fit-submit, fit-changed}
 
 -- ---- the methods of a new gate

@@ -11,7 +11,7 @@ use Rattle.state.specs.declared.Method.{Method}
 use Rattle.state.specs.declared.Settings.{Settings}
 use Rattle.state.specs.declared.Gate.{Gate}
 use Rattle.range.specs.Range.{inRange}
-use Rattle.definition.specs.Gate.{Call, newGateCall, change, openIdentityProbe, step}
+use Rattle.definition.specs.Gate.{Call, newGateCall, change, openIdentityProbe, after, afterAll}
 
 abbrev pub InRange : Gate → Type 0
 InRange g = inRange (g .core) ≡ true
@@ -38,15 +38,6 @@ AllSized [] = Unit {0}
 AllSized (k ∷ ks) = Sized k × AllSized ks
 
 -- ---- the claims
-
--- the gate that a call leaves
-abbrev pub after : Gate → Call → Gate
-after g k = step g k .gate
-
--- the gate after calls, each lent the gate as the call before it left it
-abbrev pub afterAll : Gate → List Call → Gate
-afterAll g [] = g
-afterAll g (k ∷ ks) = afterAll (after g k) ks
 
 -- New gate makes a gate in range of any settings, methods and count, whatever gate was before it; where it answers 25, too
 abbrev pub NewInRange : Type 0

@@ -5,7 +5,6 @@ use mathlib.Core.Bool.{Bool, true, false, cond, _&&_, true≢false}
 use mathlib.Core.List.{List, [], _∷_}
 use Prim.Native.Nat.{ℕ, _+_, _≤_, zero-le}
 use native.Mathlib.Omega.{arith}
-use borrow.Author.Tests.{ltb-false}
 use lib.Dec.{ltb}
 use Rattle.phones.specs.Phones.{idInRange}
 use Rattle.frames.specs.declared.CanFrame.{CanFrame}
@@ -21,6 +20,7 @@ use Rattle.state.specs.declared.Mark.{Mark}
 use Rattle.state.specs.declared.Mark.the-variants.{Blank, Kept, Fresh}
 use Rattle.state.specs.declared.Said.{Said}
 use Rattle.state.specs.Running.{isCode, isRunning, inProgress, codeInProgress, methodAt}
+use Rattle.range.proofs.Laws.{within-is}
 use Rattle.range.specs.Range.{within, settingsFit, methodsFit, phonesFit, triesFit, sessionFits, inRange}
 use Rattle.state.specs.Replies.{leave, quiet, reply, finish}
 use Rattle.state.specs.Checks.{Check, checked}
@@ -75,15 +75,6 @@ pub record Turn (c : Core) (wrong : ℕ) (o : Said) : Type 0 where
   pub paid : wrong + triesLeft (o .core) ≤ triesLeft c
 
 -- ---- what a gate in range has left
-
-within-is : (low high x : ℕ) → within low high x ≡ true → (low ≤ x) × (x ≤ high)
-unfolding within
-within-is low high x = go (ltb x low) refl (ltb high x) refl
-  where
-    go : (a : Bool) → ltb x low ≡ a → (b : Bool) → ltb high x ≡ b → cond a false (cond b false true) ≡ true → (low ≤ x) × (x ≤ high)
-    go false p false q e = (ltb-false x low p, ltb-false high x q)
-    go false p true q e = absurd (true≢false (sym e))
-    go true p b q e = absurd (true≢false (sym e))
 
 session-fits : (c : Core) → inRange c ≡ true → sessionFits (c .settings) (c .methods) (c .validation .session) ≡ true
 unfolding inRange
