@@ -37,8 +37,8 @@ use Rattle.answers.specs.declared.ChallengeAnswer.{ChallengeAnswer}
 use Rattle.answers.specs.Query as Query
 use Rattle.answers.specs.Query.{Reply, plain}
 use Rattle.new_gate.specs.New as New
-use Rattle.definition.specs.Gate.{Call, newGateCall, startValidation, submitValidationCode, change, ask, Given, step}
-use Rattle.two_runs.specs.Demand.{blanked, hideGate, hideChallenge, hideSignals, hideReply, seen, after, run, codeRuns, Alike, starts, submits, news, changes, asks, TwoRuns, end, next, judgedWrong, begins, Tally, sessions, AlikeGates}
+use Rattle.definition.specs.Gate.{Call, newGateCall, startValidation, submitValidationCode, change, ask, Given, step, after}
+use Rattle.two_runs.specs.Demand.{blanked, hideGate, hideChallenge, hideSignals, hideReply, seen, run, codeRuns, Alike, starts, submits, news, changes, asks, TwoRuns, end, next, judgedWrong, begins, Tally, sessions, AlikeGates}
 use Rattle.two_runs.proofs.Digits.{same-length, same-past}
 
 -- ---- every run has itself for a partner

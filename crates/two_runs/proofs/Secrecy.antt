@@ -32,8 +32,8 @@ use Rattle.answers.specs.Query as Query
 use Rattle.answers.specs.Query.{Query, Reply, numberedReply, answerTo}
 use Rattle.state.specs.Answers.{numbered}
 use Rattle.definition.specs.Gate as Gate
-use Rattle.definition.specs.Gate.{Change, Call, Given, given, isLent, changed, step}
-use Rattle.two_runs.specs.Demand.{blanked, hideGate, hideChallenge, hideSignals, hideReply, seen, after, run, codeRuns, comesToDraw, judges, Alike, starts, submits, news, changes, asks, TwoRuns, end, next, EqualButDigits, AlikeGates, StayAlike, over, place, LookAlike}
+use Rattle.definition.specs.Gate.{Change, Call, Given, given, isLent, changed, step, after}
+use Rattle.two_runs.specs.Demand.{blanked, hideGate, hideChallenge, hideSignals, hideReply, seen, run, codeRuns, comesToDraw, judges, Alike, starts, submits, news, changes, asks, TwoRuns, end, next, EqualButDigits, AlikeGates, StayAlike, over, place, LookAlike}
 use Rattle.two_runs.proofs.Digits.{blanked-drawn, blanked-shown}
 use Rattle.two_runs.proofs.Turns.{Shown, Marked, Fit, tries-fit, turn-leave, turn-changed}
 use Rattle.two_runs.proofs.Sessions.{runs-now, started, submitted-as}

@@ -22,8 +22,8 @@ use Rattle.range.specs.Range.{served}
 use Rattle.validation.specs.Calls.{start, submit}
 use Rattle.new_gate.specs.New.{newMethods, newCore, leastSettings, madeGate, newGate}
 use Rattle.definition.specs.Gate as Gate
-use Rattle.definition.specs.Gate.{Call, isLent, changed, step}
-use Rattle.two_runs.specs.Demand.{after, codeRuns, judgedWrong, begins, Within, sessions, Every, nil, both}
+use Rattle.definition.specs.Gate.{Call, isLent, changed, step, after}
+use Rattle.two_runs.specs.Demand.{codeRuns, judgedWrong, begins, Within, sessions, Every, nil, both}
 use Rattle.two_runs.proofs.Turns.{triesLeft, tries-fit, turn-changed}
 use Rattle.two_runs.proofs.Sessions.{started, submitted-as}
 

@@ -18,7 +18,7 @@ use Rattle.text.specs.Text.{isText, right}
 use Rattle.validation.specs.Calls.{draws, tick}
 use Rattle.answers.specs.Query as Query
 use Rattle.answers.specs.Query.{Query, Reply, numberedReply}
-use Rattle.definition.specs.Gate.{Change, Call, newGateCall, startValidation, submitValidationCode, change, ask, Given, isLent, step}
+use Rattle.definition.specs.Gate.{Change, Call, newGateCall, startValidation, submitValidationCode, change, ask, Given, isLent, step, after}
 
 -- ---- what is left out: the digits, and not their number
 
@@ -62,9 +62,6 @@ unfoldable pub seen : Given → Given
 seen o = record { numbered = o .numbered; answer = hideReply (o .answer); signals = hideSignals (o .signals); gate = hideGate (o .gate) }
 
 -- ---- runs
-
-abbrev pub after : Gate → Call → Gate
-after g c = step g c .gate
 
 -- each call is lent the gate as the call before it left it
 abbrev pub run : Gate → List Call → List Given
