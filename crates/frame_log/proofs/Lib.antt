@@ -1,0 +1,5 @@
+pub mod Pages
+pub mod Words
+pub mod Numbers
+pub mod Theorems
+pub mod Reading

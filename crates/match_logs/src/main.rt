@@ -1,0 +1,71 @@
+// Holds a gate's journal against a bus recorder. The arguments are the paths of both logs; what is printed is the line of
+// `texts::match_texts` of what was read.
+mod texts;
+
+use libc::STDOUT_FILENO;
+
+// The first bytes of a buffer, as many as the number says, or a read that failed.
+enum Input {
+    Bytes(usize),
+    Failed,
+}
+
+// Reads to the end of a file, or until `buf` is full.
+fn read_input(fd: i32, buf: &mut [u8]) -> Input {
+    let mut n = 0;
+    while n < buf.len() {
+        let got = libc::read(fd, &mut buf[n..]);
+        if got < 0 {
+            return Input::Failed;
+        }
+        let more = io::count(got, &buf[n..]);
+        if more == 0 {
+            return Input::Bytes(n);
+        }
+        n += more;
+    }
+    Input::Bytes(n)
+}
+
+// Reads the file that an argument names.
+fn read_file(arg: usize, buf: &mut [u8]) -> Input {
+    let mut path = [0u8; 4096];
+    let n = os::arg(arg, &mut path);
+    let fd = os::open_read(&path[..n]);
+    if fd < 0 {
+        os::fail(&path[..n]);
+        return Input::Failed;
+    }
+    let got = read_input(fd, buf);
+    match got {
+        Input::Bytes(k) => Input::Bytes(k),
+        Input::Failed => {
+            os::fail(&path[..n]);
+            Input::Failed
+        }
+    }
+}
+
+fn print_answer(journal: &[u8], recorder: &[u8]) {
+    let answer = texts::match_texts(journal, recorder);
+    let mut out = [0u8; 64];
+    let n = texts::put_answer(&mut out, answer);
+    if io::write_all(STDOUT_FILENO, &out[..n]) {
+        return;
+    }
+    os::fail(b"match: standard output");
+}
+
+// 513 lines of at most 81 bytes: what stands behind them changes no answer. A line above 81 bytes is not of the form, and of
+// 513 lines of the form one is a fault, if only as line 513.
+fn main() {
+    let mut journal = [0u8; 41553];
+    let mut recorder = [0u8; 41553];
+    let Input::Bytes(n) = read_file(1, &mut journal) else {
+        return;
+    };
+    let Input::Bytes(m) = read_file(2, &mut recorder) else {
+        return;
+    };
+    print_answer(&journal[..n], &recorder[..m]);
+}
