@@ -3,6 +3,8 @@
 mod texts;
 
 use libc::STDOUT_FILENO;
+ghost use lib.ListN.{length};
+ghost use Rattle.match_logs.specs.Input.{Within};
 
 // The first bytes of a buffer, as many as the number says, or a read that failed.
 enum Input {
@@ -11,7 +13,9 @@ enum Input {
 }
 
 // Reads to the end of a file, or until `buf` is full.
-fn read_input(fd: i32, buf: &mut [u8]) -> Input {
+fn read_input(fd: i32, buf: &mut [u8]) -> Input
+    ensures { λ r. ⌜ Within (length (now (buf .exit))) r ⌝ }
+{
     let mut n = 0;
     while n < buf.len() {
         let got = libc::read(fd, &mut buf[n..]);
@@ -28,7 +32,9 @@ fn read_input(fd: i32, buf: &mut [u8]) -> Input {
 }
 
 // Reads the file that an argument names.
-fn read_file(arg: usize, buf: &mut [u8]) -> Input {
+fn read_file(arg: usize, buf: &mut [u8]) -> Input
+    ensures { λ r. ⌜ Within (length (now (buf .exit))) r ⌝ }
+{
     let mut path = [0u8; 4096];
     let n = os::arg(arg, &mut path);
     let fd = os::open_read(&path[..n]);
