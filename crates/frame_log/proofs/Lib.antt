@@ -3,3 +3,4 @@ pub mod Words
 pub mod Numbers
 pub mod Theorems
 pub mod Reading
+pub mod Bounded

@@ -111,7 +111,7 @@ laid-hex m p t n h k =
 
 -- ---- a line
 
-kind-length : (i : Id) → length (kindOf i) ≡ 3
+pub kind-length : (i : Id) → length (kindOf i) ≡ 3
 kind-length (Standard n) = refl
 kind-length (Extended n) = refl
 

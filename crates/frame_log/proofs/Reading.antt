@@ -57,12 +57,12 @@ long-by : (t : Bool) (m n : ℕ) → m ≤ n → (0 < cond t 1 (suc m)) × (cond
 long-by true m n h = (omega arith, omega arith)
 long-by false m n h = (omega arith, omega arith)
 
-line-le : (s : List ℕ) → lineLength s ≤ length s
+pub line-le : (s : List ℕ) → lineLength s ≤ length s
 unfolding lineLength
 line-le [] = omega arith
 line-le (x ∷ xs) = long-by (eqb x 10) (lineLength xs) (length xs) (line-le xs) .1
 
-line-some : (s : List ℕ) → 0 < length s → 0 < lineLength s
+pub line-some : (s : List ℕ) → 0 < length s → 0 < lineLength s
 unfolding lineLength
 line-some [] h = absurd (omega arith)
 line-some (x ∷ xs) h = long-by (eqb x 10) (lineLength xs) (length xs) (line-le xs) .0
@@ -82,7 +82,7 @@ first-by true x xs e ih = ap (λ (y : ℕ). (y ∷ []) ∷ linesOf xs) (sym (eqb
 first-by false x [] e ih = refl
 first-by false x (y ∷ ys) e ih = ap (onto x) (ih (omega arith))
 
-lines-first : (s : List ℕ) → 0 < length s → linesOf s ≡ take (lineLength s) s ∷ linesOf (drop (lineLength s) s)
+pub lines-first : (s : List ℕ) → 0 < length s → linesOf s ≡ take (lineLength s) s ∷ linesOf (drop (lineLength s) s)
 unfolding linesOf lineLength
 lines-first [] h = absurd (omega arith)
 lines-first (x ∷ xs) h = first-by (eqb x 10) x xs refl (lines-first xs)

@@ -2,11 +2,11 @@
 use mathlib.Core.Path.{_≡_, refl, ap, ap₂, sym, _∙_}
 use mathlib.Core.Bool.{Bool, true, false, cond, false≢true}
 use mathlib.Core.List.{List, [], _∷_, _++_}
-use Prim.Native.Nat.{ℕ, suc, _+_, _*_, _≤_, _<_}
+use Prim.Native.Nat.{ℕ, suc, _+_, _*_, _/_, _%_, _≤_, _<_}
 use native.Mathlib.Omega.{arith}
-use borrow.Author.Tests.{le-ltb, le-leb, leb-true, ltb-false, eqb-true}
+use borrow.Author.Tests.{lt-ltb, le-ltb, leb-true, ltb-false, eqb-true}
 use lib.Dec.{eqb, ltb, leb}
-use lib.ListN.{length, take, drop}
+use lib.ListN.{length, take, drop, replicate}
 use lib.Seq.{take-at}
 use Rattle.arrays.specs.Arrays.{sameBytes}
 use Rattle.arrays.proofs.Laws.{both, same-refl, same-bytes-is}
@@ -19,12 +19,16 @@ use Rattle.frames.specs.declared.Id.{Id}
 use Rattle.frames.specs.declared.Id.the-variants.{Standard, Extended}
 use Rattle.matcher.specs.Match.{Entry, entry}
 use Rattle.script.specs.Words.{before}
-use Rattle.script.specs.Values.{numberIn, idIn, idWith, dataIn}
-use Rattle.script.specs.declared.CanId.the-variants.{Is}
-use Rattle.script.specs.declared.Number.the-variants.{Given}
+use Rattle.script.specs.Values.{digitOf, numberIn, allDigits, isHex, pairsOf, idIn, idWith, dataIn}
+use Rattle.script.proofs.Laws.{number-most, pairs-length}
+use Rattle.script.specs.declared.CanId.{CanId}
+use Rattle.script.specs.declared.CanId.the-variants.{Is, NoId}
+use Rattle.script.specs.declared.Data.{Data}
+use Rattle.script.specs.declared.Number.{Number}
+use Rattle.script.specs.declared.Number.the-variants.{Given, NoNumber}
 use Rattle.frame_log.specs.declared.LineEntry.{LineEntry}
 use Rattle.frame_log.specs.declared.line.Values.{Values}
-use Rattle.frame_log.specs.Lines.{joined, hexadecimalOf, kindOf, lineOf, InForm}
+use Rattle.frame_log.specs.Lines.{joined, hexadecimalOf, kindOf, lineOf, allBytes, InForm}
 use Rattle.frame_log.specs.Guess.{noLine, lineEntry, behind, rest, valuesIn, entryWith, entryFrom, ifLine, readLine}
 use Rattle.frame_log.proofs.Words.{Without, behind-word, rest-word}
 use Rattle.frame_log.proofs.Numbers.{decimal-read, decimal-free, hex-read, hex-free, data-read}
@@ -56,6 +60,80 @@ chosen s e false u q h = absurd (false≢true h)
 pub only-lines : (s : List ℕ) → readLine s .ok ≡ true → s ≡ lineOf (entry (readLine s .time) (readLine s .frame))
 unfolding readLine ifLine
 only-lines s h = let e = entryFrom (valuesIn s) in chosen s e (e .ok) (sameBytes (lineOf (entry (e .time) (e .frame))) s) refl h
+
+-- ---- and what is read is in form
+
+-- what one of the sixteen digits of the data tells
+pair-small : (a b : ℕ) → a ≤ 15 → b ≤ 15 → ltb (a * 16 + b) 256 ≡ true
+pair-small a b h k = lt-ltb (a * 16 + b) 256 (omega arith)
+
+pairs-small : (s : List ℕ) → allDigits s ≡ true → allBytes (pairsOf s) ≡ true
+unfolding allDigits pairsOf allBytes
+pairs-small [] h = refl
+pairs-small (a ∷ []) h = refl
+pairs-small (a ∷ b ∷ s) h =
+    let p = none-of (ltb 15 (digitOf a)) (allDigits (b ∷ s)) h in
+    let q = none-of (ltb 15 (digitOf b)) (allDigits s) (p .1) in
+    rw (pair-small (digitOf a) (digitOf b) (ltb-false 15 (digitOf a) (p .0)) (ltb-false 15 (digitOf b) (q .0))) (pairs-small s (q .1))
+  where
+    none-of : (t u : Bool) → cond t false u ≡ true → (t ≡ false) × (u ≡ true)
+    none-of true u h = absurd (false≢true h)
+    none-of false u h = (refl, h)
+
+-- eight bytes that were read are eight bytes
+record Eight (x : Data) : Type 0 where
+  far : length (x .bytes) ≡ 8
+  bytes : allBytes (x .bytes) ≡ true
+
+abbrev eightIf : List ℕ → Bool → Data
+eightIf s t = cond t (record { ok = true; bytes = pairsOf s }) (record { ok = false; bytes = replicate 8 0 })
+
+eight-by : (s : List ℕ) (t u v : Bool) → eqb (length s) 16 ≡ t → eqb (length s % 2) 1 ≡ u → allDigits s ≡ v
+    → eightIf s (cond t (cond u false v) false) .ok ≡ true → Eight (eightIf s (cond t (cond u false v) false))
+eight-by s true false true p q r h =
+    let l = eqb-true (length s) 16 p in
+    record { far = pairs-length s ∙ (let k : length s / 2 ≡ 8 = omega arith in k); bytes = pairs-small s r }
+eight-by s true false false p q r h = absurd (false≢true h)
+eight-by s true true v p q r h = absurd (false≢true h)
+eight-by s false u v p q r h = absurd (false≢true h)
+
+eight-read : (s : List ℕ) → dataIn s .ok ≡ true → Eight (dataIn s)
+unfolding dataIn isHex
+eight-read s h = eight-by s (eqb (length s) 16) (eqb (length s % 2) 1) (allDigits s) refl refl refl h
+
+form-by : (t b d : ℕ) (i : Id) (x : Data) (p q u v : Bool) → t ≤ 18446744073709551615 → ltb 3 b ≡ p → ltb 8 d ≡ q → (u ≡ true → Eight x) → idInRange i ≡ v
+    → (let e = cond p noLine (cond q noLine (cond u (cond v (lineEntry (entry t (record { bus = b; id = i; «data» = x .bytes; dlc = d }))) noLine) noLine)) in e .ok ≡ true → InForm (entry (e .time) (e .frame)))
+form-by t b d i x false false true true m hp hq hx hv h =
+    let g = hx refl in
+    record { time = omega arith; bus = ltb-false 3 b hp; dlc = ltb-false 8 d hq; id = hv; eight = g .far; bytes = g .bytes }
+form-by t b d i x false false true false m hp hq hx hv h = absurd (false≢true h)
+form-by t b d i x false false false v m hp hq hx hv h = absurd (false≢true h)
+form-by t b d i x false true u v m hp hq hx hv h = absurd (false≢true h)
+form-by t b d i x true q u v m hp hq hx hv h = absurd (false≢true h)
+
+form-with : (t b d : Number) (i : CanId) (x : Data) → ((n : ℕ) → t ≡ Given n → n ≤ 18446744073709551615) → (x .ok ≡ true → Eight x)
+    → entryWith t b i d x .ok ≡ true → InForm (entry (entryWith t b i d x .time) (entryWith t b i d x .frame))
+form-with NoNumber b d i x m g h = absurd (false≢true h)
+form-with (Given t) NoNumber d i x m g h = absurd (false≢true h)
+form-with (Given t) (Given b) d NoId x m g h = absurd (false≢true h)
+form-with (Given t) (Given b) NoNumber (Is i) x m g h = absurd (false≢true h)
+form-with (Given t) (Given b) (Given d) (Is i) x m g h = form-by t b d i x (ltb 3 b) (ltb 8 d) (x .ok) (idInRange i) (m t refl) refl refl g refl h
+
+kept-form : (s : List ℕ) (e : LineEntry) (t u : Bool) → e .ok ≡ t → (e .ok ≡ true → InForm (entry (e .time) (e .frame)))
+    → cond t (cond u e noLine) noLine .ok ≡ true → InForm (entry (cond t (cond u e noLine) noLine .time) (cond t (cond u e noLine) noLine .frame))
+kept-form s e true true p f h = f p
+kept-form s e true false p f h = absurd (false≢true h)
+kept-form s e false u p f h = absurd (false≢true h)
+
+-- what is read of a line is an entry in form
+pub only-in-form : (s : List ℕ) → readLine s .ok ≡ true → InForm (entry (readLine s .time) (readLine s .frame))
+unfolding readLine ifLine entryFrom valuesIn
+only-in-form s h =
+    let v = valuesIn s in
+    let e = entryFrom v in
+    kept-form s e (e .ok) (sameBytes (lineOf (entry (e .time) (e .frame))) s) refl
+    (form-with (v .time) (v .bus) (v .dlc) (v .id) (v .eight) (λ n k. number-most 10 18446744073709551615 n (behind 5 s) k) (eight-read (take 16 (drop 5 (rest (rest (rest (rest (rest s)))))))))
+    h
 
 -- ---- each line of an entry in form is read
 

@@ -234,6 +234,7 @@ fn is_line(s: &[u8], time: u64, f: CanFrame) -> bool
 pub fn read_line(s: &[u8]) -> LineEntry
     ensures { λ r. ⌜ r ≡ readLine (now (s .entry)) ⌝ }
 {
+    let none = no_entry();
     let v = values_in(s);
     let e = entry_of(v);
     if e.ok {
@@ -241,7 +242,7 @@ pub fn read_line(s: &[u8]) -> LineEntry
         if is_line(s, e.time, f) {
             return e;
         }
-        return no_entry();
+        return none;
     }
-    no_entry()
+    none
 }

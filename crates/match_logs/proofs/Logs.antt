@@ -19,6 +19,7 @@ use Rattle.frame_log.specs.Guess.{emptyFrame, readLine}
 use Rattle.frame_log.specs.Lines.{joined}
 use Rattle.frame_log.specs.Logs.{linesOf, Reading, read, badLine, timeBack, tooManyLines, also, lineTold, readFrom, reading, timeOf, frameOf, logOf, told, byValue, readLog}
 use Rattle.frame_log.specs.Walk.{Laid, lay}
+use Rattle.frame_log.proofs.Bounded.{first-bytes}
 use Rattle.frame_log.proofs.Pages.{laid-text, laid-all}
 use Rattle.lines.specs.Page.{Page, text}
 use Rattle.matcher.specs.Match.{Entry, entry, paired, entriesOf, wrongSize, fallFrom, firstFall, orBack, matchOf, verdict}
@@ -163,6 +164,13 @@ module _ (j r : ReadLog) (s t : List ℕ) (e : j ≡ readLog s) (f : r ≡ readL
       → matchOf (j .log) (take (j .log .count) (j .times)) (r .log) (take (r .log .count) (r .times)) ≡ matchTexts s t
   unfolding readLog matchTexts
   both-read h k = rw (e, f) (matched-by (reading s) (reading t) (read-fits s) (read-fits t) (rw e at h) (rw f at k))
+
+-- ---- logs of any length
+
+-- the first 41,554 bytes of each log decide the answer
+pub first-bytes-decide : (journal recorder : List ℕ) → matchTexts (take 41554 journal) (take 41554 recorder) ≡ matchTexts journal recorder
+unfolding matchTexts
+first-bytes-decide journal recorder = rw (first-bytes 41554 journal (omega arith), first-bytes 41554 recorder (omega arith))
 
 -- ---- the line of an answer
 
