@@ -1,0 +1,4 @@
+pub mod Lines
+pub mod Guess
+pub mod Logs
+pub mod Walk
