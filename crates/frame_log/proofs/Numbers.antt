@@ -203,3 +203,8 @@ module _ (b : ℕ) (low : b < 48) where
       let f = unit-free n in
       without-append b _ _ (f 0x1000_0000) (without-append b _ _ (f 0x100_0000) (without-append b _ _ (f 0x10_0000) (without-append b _ _ (f 0x1_0000)
       (without-append b _ _ (f 0x1000) (without-append b _ _ (f 0x100) (without-append b _ _ (f 0x10) (digit-free (n % 16))))))))
+
+  pub bytes-free : (s : List ℕ) → Without b (hexOf s)
+  unfolding hexOf before
+  bytes-free [] = refl
+  bytes-free (x ∷ xs) = without-append b (digit (x / 16) ∷ []) (digit (x % 16) ∷ hexOf xs) (digit-free (x / 16)) (without-append b (digit (x % 16) ∷ []) (hexOf xs) (digit-free (x % 16)) (bytes-free xs))

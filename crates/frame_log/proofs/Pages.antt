@@ -112,7 +112,7 @@ pub kind-length : (i : Id) → length (kindOf i) ≡ 3
 kind-length (Standard n) = refl
 kind-length (Extended n) = refl
 
-joined-append : (xs ys : List (List ℕ)) → joined xs ++ joined ys ≡ joined (xs ++ ys)
+pub joined-append : (xs ys : List (List ℕ)) → joined xs ++ joined ys ≡ joined (xs ++ ys)
 unfolding joined
 joined-append [] ys = refl
 joined-append (x ∷ xs) ys = append-assoc x (joined xs) (joined ys) ∙ ap (λ (s : List ℕ). x ++ s) (joined-append xs ys)
