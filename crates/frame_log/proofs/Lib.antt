@@ -4,3 +4,4 @@ pub mod Numbers
 pub mod Theorems
 pub mod Reading
 pub mod Bounded
+pub mod Written

@@ -1,17 +1,16 @@
 -- Numbers, ids and bytes that were written are read back; no byte below the digits stands in them.
 use mathlib.Core.Path.{_≡_, refl, ap, ap₂, sym, _∙_}
-use mathlib.Core.Bool.{Bool, true, false, cond, false≢true}
+use mathlib.Core.Bool.{Bool, true, false, cond}
 use mathlib.Core.List.{List, [], _∷_, _++_, append-assoc, append-nil}
 use Prim.Native.Nat.{ℕ, zero, suc, _+_, _*_, _/_, _%_, _≤_, _<_}
 use native.Mathlib.Omega.{arith}
-use borrow.Author.Tests.{lt-ltb, le-ltb, le-leb, lt-leb, ltb-true, ltb-false, ne-eqb}
-use lib.Dec.{eqb, ltb, leb}
+use borrow.Author.Tests.{lt-ltb, le-ltb, lt-leb, ltb-true, ltb-false, ne-eqb}
+use lib.Dec.{ltb}
 use lib.ListN.{length, length-append, replicate}
 use Rattle.arrays.specs.Arrays.{sameBytes}
 use Rattle.arrays.proofs.Laws.{both}
 use Rattle.decimal.specs.Decimal.{digitsUpTo, decimalOf}
-use Rattle.hex.specs.Hex.{digit, hexOf, valueOf}
-use Rattle.hex.specs.declared.HexValue.the-variants.{Digit}
+use Rattle.hex.specs.Hex.{digit, hexOf}
 use Rattle.hex.proofs.Laws.{value-digit, hex-length}
 use Rattle.script.specs.Words.{before}
 use Rattle.script.specs.Values.{valueOr16, digitOf, numberFrom, numberIn, allDigits, isHex, pairsOf, idWith, idIn, dataIn}
@@ -204,3 +203,8 @@ module _ (b : ℕ) (low : b < 48) where
       let f = unit-free n in
       without-append b _ _ (f 0x1000_0000) (without-append b _ _ (f 0x100_0000) (without-append b _ _ (f 0x10_0000) (without-append b _ _ (f 0x1_0000)
       (without-append b _ _ (f 0x1000) (without-append b _ _ (f 0x100) (without-append b _ _ (f 0x10) (digit-free (n % 16))))))))
+
+  pub bytes-free : (s : List ℕ) → Without b (hexOf s)
+  unfolding hexOf before
+  bytes-free [] = refl
+  bytes-free (x ∷ xs) = without-append b (digit (x / 16) ∷ []) (digit (x % 16) ∷ hexOf xs) (digit-free (x / 16)) (without-append b (digit (x % 16) ∷ []) (hexOf xs) (digit-free (x % 16)) (bytes-free xs))

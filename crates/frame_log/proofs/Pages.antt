@@ -2,7 +2,7 @@
 use mathlib.Core.Path.{_≡_, refl, ap, sym, _∙_}
 use mathlib.Core.Bool.{Bool, true, false, cond}
 use mathlib.Core.List.{List, [], _∷_, _++_, append-assoc, append-nil}
-use Prim.Native.Nat.{ℕ, zero, suc, _+_, _*_, _/_, _%_, _≤_, _<_}
+use Prim.Native.Nat.{ℕ, _+_, _/_, _%_, _≤_, _<_}
 use native.Mathlib.Nat.{add-zero}
 use native.Mathlib.Omega.{arith}
 use borrow.Author.Tests.{le-ltb}
@@ -10,16 +10,13 @@ use lib.Dec.{ltb}
 use lib.ListN.{length, take, drop, length-append, length-take, take-append-drop}
 use Rattle.arrays.specs.Arrays.{put}
 use Rattle.arrays.proofs.Laws.{put-take, put-length, cond-same}
-use Rattle.ascii.specs.Ascii.{ascii}
-use Rattle.decimal.specs.Decimal.{decimalOf}
 use Rattle.decimal.proofs.Laws.{decimal-length}
-use Rattle.hex.specs.Hex.{digit, hexOf}
+use Rattle.hex.specs.Hex.{digit}
 use Rattle.hex.proofs.Laws.{hex-length}
 use Rattle.frames.specs.Frames.{rawOf}
-use Rattle.frames.specs.declared.CanFrame.{CanFrame}
 use Rattle.frames.specs.declared.Id.{Id}
 use Rattle.frames.specs.declared.Id.the-variants.{Standard, Extended}
-use Rattle.lines.specs.Page.{Page, page, text, number, bytes, item, digitFrom, hexadecimal}
+use Rattle.lines.specs.Page.{Page, page, text, digitFrom, hexadecimal}
 use Rattle.matcher.specs.Match.{Entry}
 use Rattle.frame_log.specs.Lines.{joined, digitAt, hexDigits, hexadecimalOf, kindOf, lineOf}
 use Rattle.frame_log.specs.Walk.{Laid, lay, front, back}
@@ -115,7 +112,7 @@ pub kind-length : (i : Id) → length (kindOf i) ≡ 3
 kind-length (Standard n) = refl
 kind-length (Extended n) = refl
 
-joined-append : (xs ys : List (List ℕ)) → joined xs ++ joined ys ≡ joined (xs ++ ys)
+pub joined-append : (xs ys : List (List ℕ)) → joined xs ++ joined ys ≡ joined (xs ++ ys)
 unfolding joined
 joined-append [] ys = refl
 joined-append (x ∷ xs) ys = append-assoc x (joined xs) (joined ys) ∙ ap (λ (s : List ℕ). x ++ s) (joined-append xs ys)

@@ -2,14 +2,14 @@
 use mathlib.Core.Path.{_≡_, refl, ap, ap₂, sym, _∙_}
 use mathlib.Core.Bool.{Bool, true, false, cond, false≢true}
 use mathlib.Core.List.{List, [], _∷_, _++_}
-use Prim.Native.Nat.{ℕ, suc, _+_, _*_, _/_, _%_, _≤_, _<_}
+use Prim.Native.Nat.{ℕ, _+_, _*_, _/_, _%_, _≤_, _<_}
 use native.Mathlib.Omega.{arith}
 use borrow.Author.Tests.{lt-ltb, le-ltb, leb-true, ltb-false, eqb-true}
-use lib.Dec.{eqb, ltb, leb}
+use lib.Dec.{eqb, ltb}
 use lib.ListN.{length, take, drop, replicate}
 use lib.Seq.{take-at}
 use Rattle.arrays.specs.Arrays.{sameBytes}
-use Rattle.arrays.proofs.Laws.{both, same-refl, same-bytes-is}
+use Rattle.arrays.proofs.Laws.{same-refl, same-bytes-is}
 use Rattle.ascii.specs.Ascii.{ascii}
 use Rattle.decimal.specs.Decimal.{decimalOf}
 use Rattle.hex.specs.Hex.{hexOf}
@@ -27,7 +27,6 @@ use Rattle.script.specs.declared.Data.{Data}
 use Rattle.script.specs.declared.Number.{Number}
 use Rattle.script.specs.declared.Number.the-variants.{Given, NoNumber}
 use Rattle.frame_log.specs.declared.LineEntry.{LineEntry}
-use Rattle.frame_log.specs.declared.line.Values.{Values}
 use Rattle.frame_log.specs.Lines.{joined, hexadecimalOf, kindOf, lineOf, allBytes, InForm}
 use Rattle.frame_log.specs.Guess.{noLine, lineEntry, behind, rest, valuesIn, entryWith, entryFrom, ifLine, readLine}
 use Rattle.frame_log.proofs.Words.{Without, behind-word, rest-word}

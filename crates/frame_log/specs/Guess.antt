@@ -1,12 +1,13 @@
 -- How a line is read. What may stand in it is taken as it comes, and the line of that is compared with it. That this reads
 -- exactly the lines of entries in form is proved (every-line, only-lines), so nothing here is to be believed.
-use mathlib.Core.Bool.{Bool, true, false, cond}
+use mathlib.Core.Bool.{true, false, cond}
 use mathlib.Core.List.{List}
 use Prim.Native.Nat.{ℕ, suc, _-_}
 use lib.Dec.{ltb}
 use lib.ListN.{take, drop, replicate}
 use Rattle.arrays.specs.Arrays.{sameBytes}
 use Rattle.frames.specs.Frames.{canIdInRange}
+use Rattle.frames.specs.declared.Id.{Id}
 use Rattle.frames.specs.declared.Id.the-variants.{Standard}
 use Rattle.frames.specs.declared.CanFrame.{CanFrame}
 use Rattle.matcher.specs.Match.{Entry, entry}
@@ -48,18 +49,22 @@ valuesIn s = record {
   eight = dataIn (take 16 (drop 5 (rest (rest (rest (rest (rest s)))))));
 }
 
+-- the entry of values that are in range
+abbrev pub entryIf : ℕ → ℕ → Id → ℕ → Data → LineEntry
+entryIf t b i d eight =
+    cond (ltb 3 b) noLine
+    (cond (ltb 8 d) noLine
+    (cond (eight .ok)
+    (cond (canIdInRange i) (lineEntry (entry t (record { bus = b; id = i; «data» = eight .bytes; dlc = d }))) noLine)
+    noLine))
+
 -- the entry of values that are all there and in range
 abbrev pub entryWith : Number → Number → CanId → Number → Data → LineEntry
 entryWith NoNumber bus id dlc eight = noLine
 entryWith (Given t) NoNumber id dlc eight = noLine
 entryWith (Given t) (Given b) NoId dlc eight = noLine
 entryWith (Given t) (Given b) (Is i) NoNumber eight = noLine
-entryWith (Given t) (Given b) (Is i) (Given d) eight =
-    cond (ltb 3 b) noLine
-    (cond (ltb 8 d) noLine
-    (cond (eight .ok)
-    (cond (canIdInRange i) (lineEntry (entry t (record { bus = b; id = i; «data» = eight .bytes; dlc = d }))) noLine)
-    noLine))
+entryWith (Given t) (Given b) (Is i) (Given d) eight = entryIf t b i d eight
 
 unfoldable pub entryFrom : Values → LineEntry
 entryFrom v = entryWith (v .time) (v .bus) (v .id) (v .dlc) (v .eight)

@@ -6,17 +6,15 @@ use script::CanId;
 use script::Data;
 use script::Number;
 ghost use mathlib.Core.Path.{_≡_};
-ghost use mathlib.Core.List.{[]};
 ghost use Prim.Native.Nat.{_≤_};
 ghost use lib.ListN.{length, take, drop};
 ghost use Rattle.arrays.specs.Arrays.{sameBytes};
-ghost use Rattle.ascii.specs.Ascii.{ascii};
 ghost use Rattle.hex.specs.Hex.{hexOf};
 ghost use Rattle.lines.specs.Page.{page, text};
 ghost use Rattle.matcher.specs.Match.{entry};
 ghost use Rattle.script.specs.Values.{numberIn, idIn, dataIn};
 ghost use Rattle.frame_log.specs.Lines.{lineOf, kindOf};
-ghost use Rattle.frame_log.specs.Guess.{emptyFrame, noLine, behind, rest, valuesIn, entryFrom, readLine};
+ghost use Rattle.frame_log.specs.Guess.{emptyFrame, noLine, behind, rest, valuesIn, entryIf, entryFrom, readLine};
 ghost use Rattle.frame_log.specs.Walk.{Laid, lay, front, back};
 
 // What stands behind the keys of a line, of its form or not.
@@ -124,7 +122,37 @@ fn values_in(s: &[u8]) -> Values
     }
 }
 
-// The entry of values that are all there, and an id in range.
+// The entry of values that are in range.
+fn entry_if(time: u64, bus: u64, id: Id, dlc: u64, eight: Data) -> LineEntry
+    ensures { λ r. ⌜ r ≡ entryIf time bus id dlc eight ⌝ }
+{
+    if 3 < bus {
+        return no_entry();
+    }
+    if 8 < dlc {
+        return no_entry();
+    }
+    if eight.ok {
+        if frames::can_id_in_range(id) {
+            let data = eight.bytes;
+            let frame = CanFrame {
+                bus: bus as u8,
+                id,
+                data,
+                dlc: dlc as u8,
+            };
+            return LineEntry {
+                ok: true,
+                time,
+                frame,
+            };
+        }
+        return no_entry();
+    }
+    no_entry()
+}
+
+// The entry of values that are all there and in range.
 fn entry_of(v: Values) -> LineEntry
     ensures { λ r. ⌜ r ≡ entryFrom v ⌝ }
 {
@@ -144,31 +172,8 @@ fn entry_of(v: Values) -> LineEntry
     let Number::Given(d) = dlc else {
         return no_entry();
     };
-    if 3 < b {
-        return no_entry();
-    }
-    if 8 < d {
-        return no_entry();
-    }
     let eight = v.eight;
-    if eight.ok {
-        if frames::can_id_in_range(id) {
-            let data = eight.bytes;
-            let frame = CanFrame {
-                bus: b as u8,
-                id,
-                data,
-                dlc: d as u8,
-            };
-            return LineEntry {
-                ok: true,
-                time: t,
-                frame,
-            };
-        }
-        return no_entry();
-    }
-    no_entry()
+    entry_if(t, b, id, d, eight)
 }
 
 fn put_kind(out: &mut [u8], at: usize, id: Id) -> usize

@@ -1,19 +1,16 @@
 -- A log that is read has at most 512 entries, and their times never fall; so the matcher's checks pass, and its verdict is left.
 use mathlib.Core.Path.{_≡_, refl, ap, ap₂, sym, _∙_}
-use mathlib.Core.Bool.{Bool, true, false, cond, false≢true, not}
-use mathlib.Core.List.{List, [], _∷_, _++_, map}
-use Prim.Native.Nat.{ℕ, zero, suc, _+_, _≤_, _<_}
+use mathlib.Core.Bool.{Bool, true, false, cond, false≢true}
+use mathlib.Core.List.{List, [], _∷_, map}
+use Prim.Native.Nat.{ℕ, suc, _+_, _≤_, _<_}
 use native.Mathlib.Omega.{arith}
 use borrow.Author.Tests.{le-ltb, eq-eqb, ltb-true}
-use lib.Dec.{eqb, ltb}
+use lib.Dec.{ltb}
 use lib.ListN.{length, take, length-append, length-map}
 use lib.Seq.{length-take-le}
 use Rattle.arrays.specs.Arrays.{padded}
 use Rattle.arrays.proofs.Laws.{padded-take, padded-length}
-use Rattle.ascii.specs.Ascii.{ascii}
-use Rattle.decimal.specs.Decimal.{decimalOf}
 use Rattle.decimal.proofs.Laws.{decimal-length}
-use Rattle.frame_log.specs.declared.LineEntry.{LineEntry}
 use Rattle.frame_log.specs.declared.ReadLog.{ReadLog}
 use Rattle.frame_log.specs.Guess.{emptyFrame, readLine}
 use Rattle.frame_log.specs.Lines.{joined}
@@ -22,15 +19,15 @@ use Rattle.frame_log.specs.Walk.{Laid, lay}
 use Rattle.frame_log.proofs.Bounded.{first-bytes}
 use Rattle.frame_log.proofs.Pages.{laid-text, laid-all}
 use Rattle.lines.specs.Page.{Page, text}
-use Rattle.matcher.specs.Match.{Entry, entry, paired, entriesOf, wrongSize, fallFrom, firstFall, orBack, matchOf, verdict}
+use Rattle.matcher.specs.Match.{Entry, entry, paired, entriesOf, wrongSize, fallFrom, firstFall, matchOf, verdict}
 use Rattle.matcher.specs.declared.Found.the-variants.{Nothing}
 use Rattle.matcher.specs.declared.Log.{Log}
 use Rattle.matcher.specs.declared.Log.the-variants.{Journal, Recorder}
 use Rattle.matcher.specs.declared.MatchAnswer.{MatchAnswer}
 use Rattle.matcher.specs.declared.MatchAnswer.the-variants as answer
-use Rattle.match_logs.specs.Input.{Within}
-use Rattle.match_logs.specs.declared.Input.{Input}
-use Rattle.match_logs.specs.declared.Input.the-variants.{Bytes}
+use Rattle.input.specs.Input.{Within}
+use Rattle.input.specs.declared.Input.{Input}
+use Rattle.input.specs.declared.Input.the-variants.{Bytes}
 use Rattle.match_logs.specs.Texts.{orFault, matchTexts, isRead, faultOf, Small, logName, words, answerLine}
 
 -- ---- what is read

@@ -2,34 +2,10 @@
 // `texts::match_texts` of what was read.
 mod texts;
 
+use input::Input;
 use libc::STDOUT_FILENO;
 ghost use lib.ListN.{length};
-ghost use Rattle.match_logs.specs.Input.{Within};
-
-// The first bytes of a buffer, as many as the number says, or a read that failed.
-enum Input {
-    Bytes(usize),
-    Failed,
-}
-
-// Reads to the end of a file, or until `buf` is full.
-fn read_input(fd: i32, buf: &mut [u8]) -> Input
-    ensures { λ r. ⌜ Within (length (now (buf .exit))) r ⌝ }
-{
-    let mut n = 0;
-    while n < buf.len() {
-        let got = libc::read(fd, &mut buf[n..]);
-        if got < 0 {
-            return Input::Failed;
-        }
-        let more = io::count(got, &buf[n..]);
-        if more == 0 {
-            return Input::Bytes(n);
-        }
-        n += more;
-    }
-    Input::Bytes(n)
-}
+ghost use Rattle.input.specs.Input.{Within};
 
 // Reads the file that an argument names.
 fn read_file(arg: usize, buf: &mut [u8]) -> Input
@@ -42,7 +18,7 @@ fn read_file(arg: usize, buf: &mut [u8]) -> Input
         os::fail(&path[..n]);
         return Input::Failed;
     }
-    let got = read_input(fd, buf);
+    let got = input::read_input(fd, buf);
     match got {
         Input::Bytes(k) => Input::Bytes(k),
         Input::Failed => {

@@ -3,8 +3,6 @@
 use frames::CanFrame;
 ghost use mathlib.Core.Path.{_≡_};
 ghost use mathlib.Core.Bool.{false, cond};
-ghost use Prim.Native.Nat.{_≤_};
-ghost use lib.ListN.{length};
 ghost use Rattle.matcher.specs.Frames.{sameFrame};
 ghost use Rattle.matcher.specs.Match.{entry, fits, entriesOf, wrongSize, firstFall, numberOf, matchOf};
 ghost use Rattle.matcher.specs.Greedy.{freeIn, firstFit, greedy, Sized};

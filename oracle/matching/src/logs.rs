@@ -102,7 +102,7 @@ pub fn read(log: &[u8]) -> Result<Vec<Entry>, Fault> {
     Ok(entries)
 }
 
-fn fits(entry: &Entry, seen: &Entry) -> bool {
+pub fn fits(entry: &Entry, seen: &Entry) -> bool {
     entry.frame == seen.frame && entry.time <= seen.time && seen.time - entry.time <= 50
 }
 
@@ -140,7 +140,7 @@ fn first_stop(journal: &[Entry], recorder: &[Entry]) -> Option<usize> {
         .map(|r| r + 1)
 }
 
-fn refused(log: &str, fault: Fault) -> String {
+pub fn refused(log: &str, fault: Fault) -> String {
     match fault {
         Fault::BadLine(n) => format!("answer=36/BadLine log={log} line={n}\n"),
         Fault::TimeBack(n) => format!("answer=37/TimeBack log={log} line={n}\n"),

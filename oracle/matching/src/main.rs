@@ -1,10 +1,13 @@
 //! Compares a program that holds a journal against a recorder with the matcher of `logs`, on generated pairs of logs.
 //!
 //! usage: matching OTHER PAIRS [SEED]
-//! OTHER is a program that takes the paths of both logs. Exit status: 0 no difference, 1 a difference, 2 nothing was compared.
+//!        matching --wrong PAIRS [SEED]
+//! OTHER is a program that takes the paths of both logs. Exit status: 0 no difference, 1 a difference, 2 nothing was compared. With
+//! --wrong: 0 if the pairs tell each wrong rule from the right ones, 1 if not.
 
 mod generate;
 mod logs;
+mod wrong;
 
 use std::collections::BTreeMap;
 use std::path::Path;
@@ -50,6 +53,26 @@ const MET: [&str; 8] = [
     "answer=38/TooManyLines log=recorder",
 ];
 
+/// Says of each wrong rule at which pair it is told.
+fn tell_wrong(pairs: u64, seed: u64) -> ExitCode {
+    let mut untold = 0;
+    for (rule, answer) in wrong::RULES {
+        let mut random = generate::Random::new(seed);
+        let told = (1..=pairs).find(|_| {
+            let (journal, recorder) = generate::pair(&mut random);
+            answer(&journal, &recorder) != logs::answer(&journal, &recorder)
+        });
+        match told {
+            Some(pair) => println!("told at pair {pair}: {rule}"),
+            None => {
+                println!("NOT TOLD by {pairs} pairs: {rule}");
+                untold += 1;
+            }
+        }
+    }
+    ExitCode::from(u8::from(untold > 0))
+}
+
 fn main() -> ExitCode {
     let arguments: Vec<String> = std::env::args().skip(1).collect();
     let (Some(other), Some(Ok(pairs))) = (
@@ -61,6 +84,9 @@ fn main() -> ExitCode {
     let Ok(seed) = arguments.get(2).map_or(Ok(1), |n| n.parse::<u64>()) else {
         return fail("SEED is a number");
     };
+    if other == "--wrong" {
+        return tell_wrong(pairs, seed);
+    }
     let folder = std::env::temp_dir().join(format!("matching.{}", std::process::id()));
     if std::fs::create_dir_all(&folder).is_err() {
         return fail("no folder for the logs");

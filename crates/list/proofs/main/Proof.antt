@@ -2,9 +2,9 @@
 use mathlib.Core.Path.{_≡_, sym}
 use Prim.Native.Nat.{ℕ, _≤_}
 use lib.Seq.{length-take-le}
-use Rattle.list.specs.Input.{Within}
-use Rattle.list.specs.declared.Input.{Input}
-use Rattle.list.specs.declared.Input.the-variants.{Bytes}
+use Rattle.input.specs.Input.{Within}
+use Rattle.input.specs.declared.Input.{Input}
+use Rattle.input.specs.declared.Input.the-variants.{Bytes}
 use borrow.Author.Needs.{needs}
 use Rattle.list.proofs.main.Statement.{statement}
 use Rattle.list.proofs.main.Tie as tie
@@ -28,7 +28,7 @@ slice-aggregate-print-listing : tie.Need-slice-aggregate-print-listing
 slice-aggregate-print-listing c =
     let r = c .before .before .before .before .before .read-input in
     let n = c .before .before .n .given in
-    sym (length-take-le (n .0 .0) (r .last .0) (inside (r .result) (n .0 .0) _ (n .1) (r .ensures)))
+    sym (length-take-le (n .0 .0) (r .last .1 .0) (inside (r .result) (n .0 .0) _ (n .1) (r .ensures)))
 
 print-listing-requires : tie.Need-print-listing-requires
 print-listing-requires c κs = tt

@@ -1,4 +1,3 @@
-use borrow.Author.Tests.{lt-ltb, le-ltb}
 use Rattle.frame_log.specs.Guess.{entryFrom}
 use borrow.Author.Needs.{needs}
 use Rattle.frame_log.proofs.line.entry_of.Statement.{statement}
@@ -56,46 +55,12 @@ returns-4 : tie.Need-returns-4
 unfolding entryFrom
 returns-4 c = rw (c .before .before .before .before .before .before .before .before .before .before .time .given .1, c .before .before .before .before .before .before .before .bus .given .1, c .before .before .before .before .some .given .1, c .before .enum-told4 .given .1, ← c .no-entry4 .ensures)
 
-no-entry-requires-5 : tie.Need-no-entry-requires-5
-no-entry-requires-5 c κs = tt
+entry-if-requires : tie.Need-entry-if-requires
+entry-if-requires c κs = tt
 
 returns-5 : tie.Need-returns-5
 unfolding entryFrom
-returns-5 c = rw (c .before .before .before .before .before .before .before .before .before .before .before .before .time .given .1, c .before .before .before .before .before .before .before .before .before .bus .given .1, c .before .before .before .before .before .before .some .given .1, c .before .before .before .dlc .given .1, lt-ltb _ _ (c .before .if1 .taken), ← c .no-entry5 .ensures)
-
-no-entry-requires-6 : tie.Need-no-entry-requires-6
-no-entry-requires-6 c κs = tt
-
-returns-6 : tie.Need-returns-6
-unfolding entryFrom
-returns-6 c = rw (c .before .before .before .before .before .before .before .before .before .before .before .before .before .time .given .1, c .before .before .before .before .before .before .before .before .before .before .bus .given .1, c .before .before .before .before .before .before .before .some .given .1, c .before .before .before .before .dlc .given .1, le-ltb _ _ (c .before .before .if1 .left), lt-ltb _ _ (c .before .if2 .taken), ← c .no-entry6 .ensures)
-
-can-id-in-range-requires : tie.Need-can-id-in-range-requires
-can-id-in-range-requires c κs = tt
-
-cast-t15 : tie.Need-cast-t15
-cast-t15 c = search needs
-
-cast-t16 : tie.Need-cast-t16
-cast-t16 c = search needs
-
-returns-7 : tie.Need-returns-7
-unfolding entryFrom
-returns-7 c = rw (c .before .before .before .before .before .before .before .before .before .before .before .before .before .before .before .before .before .time .given .1, c .before .before .before .before .before .before .before .before .before .before .before .before .before .before .bus .given .1, c .before .before .before .before .before .before .before .before .before .before .before .some .given .1, c .before .before .before .before .before .before .before .before .dlc .given .1, le-ltb _ _ (c .before .before .before .before .before .before .if1 .left), le-ltb _ _ (c .before .before .before .before .before .if2 .left), c .before .before .before .if3 .taken, ← c .before .before .can-id-in-range .ensures, c .before .if4 .taken)
-
-no-entry-requires-7 : tie.Need-no-entry-requires-7
-no-entry-requires-7 c κs = tt
-
-returns-8 : tie.Need-returns-8
-unfolding entryFrom
-returns-8 c = rw (c .before .before .before .before .before .before .before .before .before .before .before .before .before .before .before .before .before .time .given .1, c .before .before .before .before .before .before .before .before .before .before .before .before .before .before .bus .given .1, c .before .before .before .before .before .before .before .before .before .before .before .some .given .1, c .before .before .before .before .before .before .before .before .dlc .given .1, le-ltb _ _ (c .before .before .before .before .before .before .if1 .left), le-ltb _ _ (c .before .before .before .before .before .if2 .left), c .before .before .before .if3 .taken, ← c .before .before .can-id-in-range .ensures, c .before .if4 .left, ← c .no-entry7 .ensures)
-
-no-entry-requires-8 : tie.Need-no-entry-requires-8
-no-entry-requires-8 c κs = tt
-
-returns-9 : tie.Need-returns-9
-unfolding entryFrom
-returns-9 c = rw (c .before .before .before .before .before .before .before .before .before .before .before .before .before .before .before .time .given .1, c .before .before .before .before .before .before .before .before .before .before .before .before .bus .given .1, c .before .before .before .before .before .before .before .before .before .some .given .1, c .before .before .before .before .before .before .dlc .given .1, le-ltb _ _ (c .before .before .before .before .if1 .left), le-ltb _ _ (c .before .before .before .if2 .left), c .before .if3 .left, ← c .no-entry8 .ensures)
+returns-5 c = rw (c .before .before .before .before .before .before .before .before .before .before .before .before .time .given .1, c .before .before .before .before .before .before .before .before .before .bus .given .1, c .before .before .before .before .before .before .some .given .1, c .before .before .before .dlc .given .1, ← c .entry-if .ensures)
 
 pub entry-of-spec : {M : Type 1} → statement M
 entry-of-spec =
@@ -117,15 +82,5 @@ entry-of-spec =
     enum-told-4
     no-entry-requires-4
     returns-4
-    no-entry-requires-5
-    returns-5
-    no-entry-requires-6
-    returns-6
-    can-id-in-range-requires
-    cast-t15
-    cast-t16
-    returns-7
-    no-entry-requires-7
-    returns-8
-    no-entry-requires-8
-    returns-9)
+    entry-if-requires
+    returns-5)

@@ -1,4 +1,4 @@
-use mathlib.Core.Path.{sym, ap, _∙_}
+use mathlib.Core.Path.{ap, _∙_}
 use native.Mathlib.Omega.{arith}
 use Rattle.script.specs.Values.{numberIn}
 use Rattle.frame_log.proofs.Words.{behind-short, behind-part, found-inside}

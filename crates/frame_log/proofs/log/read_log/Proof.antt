@@ -1,12 +1,9 @@
 -- The invariant (`Kept`): what the arrays hold are the entries read so far, and the rest of the text decides the rest.
-use mathlib.Core.Path.{_≡_, refl, ap, _∙_}
-use mathlib.Core.List.{[]}
-use Prim.Native.Nat.{ℕ, _-_}
+use mathlib.Core.Path.{_∙_}
+use Prim.Native.Nat.{_-_}
 use native.Mathlib.Omega.{arith}
-use lib.ListN.{length, replicate}
-use Rattle.frames.specs.declared.CanFrame.{CanFrame}
+use lib.ListN.{length}
 use Rattle.frame_log.proofs.Reading.{Kept, line-inside, kept-start, kept-end, kept-bad, kept-back, kept-over, kept-again}
-use borrow.Author.Needs.{needs}
 use Rattle.frame_log.proofs.log.read_log.Statement.{statement}
 use Rattle.frame_log.proofs.log.read_log.Tie as tie
 

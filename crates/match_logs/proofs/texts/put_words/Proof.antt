@@ -1,7 +1,6 @@
 use native.Mathlib.Omega.{arith}
 use Rattle.lines.specs.Page.{item}
 use Rattle.frame_log.specs.Walk.{lay}
-use Rattle.arrays.specs.Arrays.{put}
 use borrow.Author.Needs.{needs}
 use Rattle.match_logs.proofs.texts.put_words.Statement.{statement}
 use Rattle.match_logs.proofs.texts.put_words.Tie as tie

@@ -1,7 +1,7 @@
 -- What a program knows of what it read; the bytes are open.
 use Prim.Native.Nat.{ℕ, _≤_}
-use Rattle.list.specs.declared.Input.{Input}
-use Rattle.list.specs.declared.Input.the-variants.{Bytes, Failed}
+use Rattle.input.specs.declared.Input.{Input}
+use Rattle.input.specs.declared.Input.the-variants.{Bytes, Failed}
 
 -- no more bytes than the buffer holds
 abbrev pub Within : ℕ → Input → Type 0
