@@ -52,13 +52,13 @@ mul-frames : tie.Need-mul-frames Inv-loop μ-loop
 mul-frames c = omega arith
 
 array-set-from-frames : tie.Need-array-set-from-frames Inv-loop μ-loop
-array-set-from-frames c = c .before .if3 .taken
+array-set-from-frames c = omega arith
 
 mul-times : tie.Need-mul-times Inv-loop μ-loop
 mul-times c = omega arith
 
 array-write-times : tie.Need-array-write-times Inv-loop μ-loop
-array-write-times c = c .before .if3 .taken
+array-write-times c = omega arith
 
 add-n : tie.Need-add-n Inv-loop μ-loop
 add-n c = omega arith
