@@ -1,4 +1,6 @@
 pub mod Laws
 pub mod Pieces
+pub mod CutAnywhere
 pub mod Padding
+pub mod Joined
 pub mod Smallest
