@@ -1,4 +1,5 @@
 pub mod Laws
+pub mod Shorter
 pub mod Pieces
 pub mod CutAnywhere
 pub mod Padding

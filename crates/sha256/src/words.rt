@@ -17,16 +17,17 @@ pub fn add(x: u32, y: u32) -> u32
     std::num::wrapping_add_u32(x, y)
 }
 
+// `ch` and `maj` have an operation less than the paper's forms; and `y ^ z` of a round is `x ^ y` of the one before it.
 fn ch(x: u32, y: u32, z: u32) -> u32
     ensures { λ r. ⌜ r ≡ Ch x y z ⌝ }
 {
-    (x & y) ^ (!x & z)
+    (x & (y ^ z)) ^ z
 }
 
 fn maj(x: u32, y: u32, z: u32) -> u32
     ensures { λ r. ⌜ r ≡ Maj x y z ⌝ }
 {
-    (x & y) ^ (x & z) ^ (y & z)
+    ((x ^ y) & (y ^ z)) ^ y
 }
 
 fn sum0(x: u32) -> u32
