@@ -140,17 +140,21 @@ before n j x = x % 2 ^ n * 2 ^ j + x / 2 ^ n
 abbrev turned : ℕ → ℕ → ℕ
 turned n x = before n (32 - n) x
 
+others-lt : (n x : ℕ) → n ≤ 32 → x < 2 ^ 32 → x / 2 ^ n < 2 ^ (32 - n)
+others-lt n x l h =
+    let f : 32 ≡ 32 - n + n = omega arith in
+    shr-lt (32 - n) n (subst (λ (w : ℕ). x < 2 ^ w) f h)
+
 rotr-turned : (n x : ℕ) → n ≤ 32 → x < 2 ^ 32 → ROTR n x ≡ turned n x
 rotr-turned n x l h =
     let k = 32 - n in
     let e : n + k ≡ 32 = omega arith in
-    let f : k + n ≡ 32 = omega arith in
     let moved : x * 2 ^ k % 2 ^ 32 ≡ x % 2 ^ n * 2 ^ k =
     ap (λ (w : ℕ). x * 2 ^ k % 2 ^ w) (sym e)
     ∙ mod-pow-add (x * 2 ^ k) n k
     ∙ ap₂ (λ (p q : ℕ). p % 2 ^ n * 2 ^ k + q) (shl-shr x k) (mul-mod-left x (2 ^ k))
     ∙ add-zero (x % 2 ^ n * 2 ^ k) in
-    ap (λ (w : ℕ). bitOr (x / 2 ^ n) w) moved ∙ or-shifted-r (x % 2 ^ n) k (x / 2 ^ n) (shr-lt k n (subst (λ (w : ℕ). x < 2 ^ w) (sym f) h))
+    ap (λ (w : ℕ). bitOr (x / 2 ^ n) w) moved ∙ or-shifted-r (x % 2 ^ n) k (x / 2 ^ n) (others-lt n x l h)
 
 rotr-lt : (n x : ℕ) → x < 2 ^ 32 → ROTR n x < 2 ^ 32
 rotr-lt n x h = or-lt 32 (x / 2 ^ n) (x * 2 ^ (32 - n) % 2 ^ 32) (lt-of-le-of-lt (shr-le x n) h) (mod-lt (x * 2 ^ (32 - n)) (pow-pos 32))
@@ -158,11 +162,9 @@ rotr-lt n x h = or-lt 32 (x / 2 ^ n) (x * 2 ^ (32 - n) % 2 ^ 32) (lt-of-le-of-lt
 rotr-xor : (n x y : ℕ) → n ≤ 32 → x < 2 ^ 32 → y < 2 ^ 32 → ROTR n (x ⊕ y) ≡ ROTR n x ⊕ ROTR n y
 rotr-xor n x y l hx hy =
     let k = 32 - n in
-    let f : k + n ≡ 32 = omega arith in
-    let high : (z : ℕ) → z < 2 ^ 32 → z / 2 ^ n < 2 ^ k = λ z h. shr-lt k n (subst (λ (w : ℕ). z < 2 ^ w) (sym f) h) in
     rotr-turned n (x ⊕ y) l (xor-lt 32 x y hx hy)
     ∙ ap₂ (λ (p q : ℕ). p * 2 ^ k + q) (xor-mod x y n) (xor-shr x y n)
-    ∙ sym (xor-block k (x % 2 ^ n) (y % 2 ^ n) (x / 2 ^ n) (y / 2 ^ n) (high x hx) (high y hy))
+    ∙ sym (xor-block k (x % 2 ^ n) (y % 2 ^ n) (x / 2 ^ n) (y / 2 ^ n) (others-lt n x l hx) (others-lt n y l hy))
     ∙ sym (ap₂ (λ (p q : ℕ). p ⊕ q) (rotr-turned n x l hx) (rotr-turned n y l hy))
 
 -- m places, and then n, are n + m

@@ -110,7 +110,8 @@ pub fn sha256(m: &[u8]) -> [u8; 32]
 }
 
 // The message digest of `a` followed by `b`, taken in one after the other. Neither is copied: the whole blocks of each are
-// hashed where they lie, and one block is put together of what is left of `a` and the front of `b`.
+// hashed where they lie, and one block is put together of what is left of `a` and the front of `b`. The sum of the lengths
+// is taken modulo 2^64, which the padding does not see.
 pub fn sha256_of_two(a: &[u8], b: &[u8]) -> [u8; 32]
     ensures { λ r. ⌜ r ≡ closed (absorbed (absorbed opened (now (a .entry))) (now (b .entry))) ⌝ }
 {
