@@ -1,7 +1,8 @@
 // The digest of a car: SHA-256 over a fixed byte string, the platform number and the fingerprint (can_access.rs, car_digest).
+ghost use mathlib.Core.List.{_++_};
 ghost use mathlib.Core.Path.{_≡_};
 ghost use Prim.Native.Nat.{_%_};
-ghost use Rattle.car_digest.specs.CarDigest.{carDigest};
+ghost use Rattle.car_digest.specs.CarDigest.{carDigest, domain};
 ghost use Rattle.car_digest.specs.CarDigest as CarDigest;
 
 fn byte(x: u32) -> u8
@@ -22,8 +23,19 @@ pub struct Digested {
     pub digest: [u8; 32],
 }
 
+// The first 30 bytes of a car's message: the fixed string and the platform number.
+fn opening(platform: u32) -> [u8; 30]
+    ensures { λ r. ⌜ r ≡ domain ++ CarDigest.little4 platform ⌝ }
+{
+    let mut b = [0u8; 30];
+    arrays::put(&mut b, 0, b"opencar/can-rw-approval/v1");
+    arrays::put(&mut b, 26, &little4(platform));
+    b
+}
+
 // The digest of a car: SHA-256 over a fixed string, the platform number and the fingerprint. A fingerprint above 4,096
-// bytes has none: `ok` is false, and the digest is zeros. Only the first block is copied; the rest is read where it lies.
+// bytes has none: `ok` is false, and the digest is zeros. The first 30 bytes are laid down once, before the loop over the
+// fingerprint, which is hashed where it lies.
 pub fn car_digest(platform: u32, fingerprint: &[u8]) -> Digested
     ensures { λ r. ⌜ r ≡ carDigest platform (now (fingerprint .entry)) ⌝ }
 {
@@ -33,23 +45,8 @@ pub fn car_digest(platform: u32, fingerprint: &[u8]) -> Digested
             digest: [0u8; 32],
         };
     }
-    let mut b = [0u8; 64];
-    arrays::put(&mut b, 0, b"opencar/can-rw-approval/v1");
-    arrays::put(&mut b, 26, &little4(platform));
-    if fingerprint.len() < 34 {
-        arrays::put(&mut b, 30, fingerprint);
-        let n = 30 + fingerprint.len();
-        let d = sha256::sha256(&b[..n]);
-        return Digested {
-            ok: true,
-            digest: d,
-        };
-    }
-    arrays::put(&mut b, 30, &fingerprint[..34]);
-    let h = sha256::initial();
-    let g = sha256::hash_blocks(h, &b);
-    let n = 30 + fingerprint.len();
-    let d = sha256::finish(g, &fingerprint[34..], n as u64);
+    let first = opening(platform);
+    let d = sha256::sha256_of_two(&first, fingerprint);
     Digested {
         ok: true,
         digest: d,

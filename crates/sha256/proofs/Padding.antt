@@ -35,7 +35,7 @@ padded-zeros n z p l =
     ∙ ap (λ (s : List ℕ). p ++ s) (sym (replicate-append-replicate z (n - length (p ++ replicate z 0)) 0))
     ∙ sym (append-assoc p (replicate z 0) (replicate (n - length (p ++ replicate z 0)) 0))
 
-four : {a b c d a′ b′ c′ d′ : ℕ} → a ≡ a′ → b ≡ b′ → c ≡ c′ → d ≡ d′ → (a ∷ b ∷ c ∷ d ∷ []) ≡ (a′ ∷ b′ ∷ c′ ∷ d′ ∷ [])
+pub four : {a b c d a′ b′ c′ d′ : ℕ} → a ≡ a′ → b ≡ b′ → c ≡ c′ → d ≡ d′ → (a ∷ b ∷ c ∷ d ∷ []) ≡ (a′ ∷ b′ ∷ c′ ∷ d′ ∷ [])
 four p q r s = λ i. p i ∷ q i ∷ r i ∷ s i ∷ []
 
 -- the number of bits, in two words that are made of the number of bytes

@@ -45,7 +45,7 @@ word-behind a c x y e =
     word-same (a ++ c) c x y (λ j u. ap (λ (n : ℕ). getD (a ++ c) n 0) (omega arith) ∙ getD-append-add a c (y + j) 0)
 
 -- what follows the blocks does not change their hash value
-hashFrom-front : (h a c : List ℕ) (i : ℕ) → 64 * i ≤ length a → hashFrom h (a ++ c) i ≡ hashFrom h a i
+pub hashFrom-front : (h a c : List ℕ) (i : ℕ) → 64 * i ≤ length a → hashFrom h (a ++ c) i ≡ hashFrom h a i
 unfolding hashFrom
 hashFrom-front h a c zero l = refl
 hashFrom-front h a c (suc i) l =

@@ -1,1 +1,2 @@
 pub mod Sha256
+pub mod Pieces

@@ -1,8 +1,9 @@
-// SHA-256 (FIPS 180-4). The definition is specs/Sha256.antt.
+// SHA-256 (FIPS 180-4). The definition is specs/Sha256.antt, that of a message in pieces specs/Pieces.antt.
 ghost use mathlib.Core.Path.{_≡_};
 ghost use Prim.Native.Nat.{_*_, _/_, _<_};
 ghost use lib.ListN.{length};
 ghost use Rattle.arrays.specs.Arrays.{padded};
+ghost use Rattle.sha256.specs.Pieces.{opened, absorbed, closed};
 ghost use Rattle.sha256.specs.Sha256.{H₀, bytes, blockCount, hashFrom, padLast, finished};
 ghost use Rattle.sha256.specs.Sha256 as Sha;
 use arrays::put;
@@ -108,11 +109,34 @@ pub fn sha256(m: &[u8]) -> [u8; 32]
     finish(H0, m, m.len() as u64)
 }
 
+// The message digest of `a` followed by `b`, taken in one after the other. Neither is copied: the whole blocks of each are
+// hashed where they lie, and one block is put together of what is left of `a` and the front of `b`. The sum of the lengths
+// is taken modulo 2^64, which the padding does not see.
+pub fn sha256_of_two(a: &[u8], b: &[u8]) -> [u8; 32]
+    ensures { λ r. ⌜ r ≡ closed (absorbed (absorbed opened (now (a .entry))) (now (b .entry))) ⌝ }
+{
+    let size = a.len();
+    let n = size % 64;
+    let from = size - n;
+    let more = b.len();
+    let total = std::num::wrapping_add_u64(size as u64, more as u64);
+    let h = hash_blocks(H0, a);
+    let mut t = [0u8; 64];
+    put(&mut t, 0, &a[from..]);
+    let room = 64 - n;
+    if more < room {
+        put(&mut t, n, b);
+        let e = n + more;
+        return finish(h, &t[..e], total);
+    }
+    put(&mut t, n, &b[..room]);
+    let g = hash_blocks(h, &t);
+    finish(g, &b[room..], total)
+}
+
 // How many blocks the padded message of `n` bytes has.
 pub fn block_count(n: u64) -> u64
     ensures { λ r. ⌜ r ≡ blockCount n ⌝ }
 {
     if n % 64 < 56 { n / 64 + 1 } else { n / 64 + 2 }
 }
-
-// What `car_digest` answers.

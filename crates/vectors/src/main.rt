@@ -1,11 +1,13 @@
-// The examples of FIPS 180-4, and car digests of several lengths: a line each, with the digest in hexadecimal. The file
-// `stdout` was made with another implementation. What a program writes is open to a contract: `digest`, `line`, `car` and
-// `main` give nothing back, and `stdout` has what they write.
+// The examples of FIPS 180-4 and a message of 4,126 bytes, whole and cut in two at every place, and car digests of several
+// lengths: a line each, with the digest in hexadecimal. The file `stdout` was made with another implementation. What a
+// program writes is open to a contract: `digest`, `line`, `message`, `car` and `main` give nothing back, and `stdout` has
+// what they write.
 ghost use mathlib.Core.Path.{_≡_};
-ghost use Prim.Native.Nat.{_≤_};
+ghost use Prim.Native.Nat.{_+_, _≤_};
 ghost use lib.ListN.{length, replicate};
 ghost use Rattle.sha256.specs.Sha256 as Sha;
 ghost use Rattle.vectors.specs.Counted.{counted};
+use arrays::same_bytes;
 use car_digest::car_digest;
 use libc::STDOUT_FILENO;
 use sha256::block_count;
@@ -13,6 +15,7 @@ use sha256::finish;
 use sha256::hash_blocks;
 use sha256::initial;
 use sha256::sha256;
+use sha256::sha256_of_two;
 
 // Ends a line.
 fn digest(d: [u8; 32]) {
@@ -27,6 +30,36 @@ fn digest(d: [u8; 32]) {
 fn line(name: &[u8], d: [u8; 32]) {
     io::write_all(STDOUT_FILENO, name);
     digest(d);
+}
+
+// At how many places `m` was cut in two, from the front on, until the two pieces gave another digest than the whole: at all
+// of them.
+fn cuts(m: &[u8]) -> usize
+    requires { ⌜ length (now m) ≤ 4126 ⌝ }
+    ensures { λ r. ⌜ r ≡ length (now (m .entry)) + 1 ⌝ }
+{
+    let whole = sha256(m);
+    let n = m.len() + 1;
+    let mut i = 0;
+    while i < n {
+        let d = sha256_of_two(&m[..i], &m[i..]);
+        if same_bytes(&d, &whole) {
+            i += 1;
+        } else {
+            return i;
+        }
+    }
+    i
+}
+
+fn message(name: &[u8], m: &[u8])
+    requires { ⌜ length (now m) ≤ 4126 ⌝ }
+{
+    io::write_all(STDOUT_FILENO, b"message=");
+    io::write_all(STDOUT_FILENO, name);
+    io::write_all(STDOUT_FILENO, b" cuts=");
+    io::print_decimal(STDOUT_FILENO, cuts(m) as u64);
+    line(b" digest=", sha256(m));
 }
 
 // The digest of one million times "a", 25 blocks at a time.
@@ -44,13 +77,13 @@ fn million() -> [u8; 32]
     finish(h, b"", 1_000_000)
 }
 
-// The bytes of which the fingerprints are made: 0, 1, .., 250, 0, 1, ..
-fn body() -> [u8; 4097]
-    ensures { λ r. ⌜ r ≡ counted 4097 ⌝ }
+// The bytes of which the long message and the fingerprints are made: 0, 1, .., 250, 0, 1, ..
+fn body() -> [u8; 4126]
+    ensures { λ r. ⌜ r ≡ counted 4126 ⌝ }
 {
-    let mut b = [0u8; 4097];
+    let mut b = [0u8; 4126];
     let mut i = 0;
-    while i < 4097 {
+    while i < 4126 {
         b[i] = (i % 251) as u8;
         i += 1;
     }
@@ -77,20 +110,19 @@ fn car(platform: u32, b: &[u8], n: usize)
 }
 
 fn main() {
-    line(b"message=empty digest=", sha256(b""));
-    line(b"message=abc digest=", sha256(b"abc"));
-    line(
-        b"message=448bits digest=",
-        sha256(b"abcdbcdecdefdefgefghfghighijhijkijkljklmklmnlmnomnopnopq"),
+    message(b"empty", b"");
+    message(b"abc", b"abc");
+    message(
+        b"448bits",
+        b"abcdbcdecdefdefgefghfghighijhijkijkljklmklmnlmnomnopnopq",
     );
-    line(
-        b"message=896bits digest=",
-        sha256(
-            b"abcdefghbcdefghicdefghijdefghijkefghijklfghijklmghijklmnhijklmnoijklmnopjklmnopqklmnopqrlmnopqrsmnopqrstnopqrstu",
-        ),
+    message(
+        b"896bits",
+        b"abcdefghbcdefghicdefghijdefghijkefghijklfghijklmghijklmnhijklmnoijklmnopjklmnopqklmnopqrlmnopqrsmnopqrstnopqrstu",
     );
     line(b"message=million_a digest=", million());
     let b = body();
+    message(b"4126bytes", &b);
     car(1, &b, 0);
     car(305419896, &b, 25);
     car(305419896, &b, 26);

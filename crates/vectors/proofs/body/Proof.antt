@@ -12,10 +12,10 @@ use Rattle.vectors.proofs.body.Statement.{statement}
 use Rattle.vectors.proofs.body.Tie as tie
 
 abbrev Inv-loop : tie.InvT-loop
-Inv-loop b₀ i₀ b i = (i ≤ 4097) × (length b ≡ 4097) × (take i b ≡ counted i)
+Inv-loop b₀ i₀ b i = (i ≤ 4126) × (length b ≡ 4126) × (take i b ≡ counted i)
 
 abbrev μ-loop : tie.MeasureT-loop
-μ-loop b₀ i₀ b i = 4097 - i
+μ-loop b₀ i₀ b i = 4126 - i
 
 loop-holds : tie.Need-loop-holds Inv-loop μ-loop
 unfolding counted
@@ -45,8 +45,8 @@ loop-again c =
 returns : tie.Need-returns Inv-loop μ-loop
 returns c =
     let l = c .before .loop in
-    let e : l .i ≡ 4097 = omega arith in
-    sym (take-all 4097 (l .b) (omega arith)) ∙ (rw e at (l .inv .2))
+    let e : l .i ≡ 4126 = omega arith in
+    sym (take-all 4126 (l .b) (omega arith)) ∙ (rw e at (l .inv .2))
 
 pub body-spec : {M : Type 1} → statement M
 body-spec =
