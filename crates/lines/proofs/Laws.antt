@@ -1,8 +1,7 @@
 -- Laws of what is laid down.
 use mathlib.Core.Path.{_≡_, sym, _∙_}
 use mathlib.Core.List.{List, [], _∷_}
-use Prim.Native.Nat.{ℕ, zero, suc, _+_, _%_, _^_, _≤_, _<_, min}
-use native.Mathlib.Nat.{zero-min, min-zero, suc-min-suc}
+use Prim.Native.Nat.{ℕ, _+_, _%_, _^_, _≤_, _<_}
 use native.Mathlib.Numerals.{add-one}
 use native.Mathlib.Omega.{arith}
 use lib.ListN.{length, take, drop, getD, replicate, drop-of-length-le}
@@ -11,6 +10,8 @@ use Rattle.arrays.specs.Arrays.{put}
 use Rattle.arrays.proofs.Laws.{put-take}
 use Rattle.lines.specs.Page.{Page}
 use Rattle.lines.specs.Parts.{idAt, idsFrom}
+use Rattle.lines.specs.Fields.{putField, putFields}
+use Rattle.lines.specs.declared.fields.Field.{Field}
 use Rattle.decimal.specs.Decimal.{decimalOf}
 use Rattle.decimal.proofs.Laws.{decimal-length}
 
@@ -25,15 +26,6 @@ front d k s h e f = rw (e, f) (put-take (replicate 20 0) 0 s (omega arith))
 pub mod-twice : (n : ℕ) → n % 16 % 16 ≡ n % 16
 mod-twice n = omega arith
 
-take-min : (n : ℕ) (xs : List ℕ) → take (min n (length xs)) xs ≡ take n xs
-take-min zero xs = rw zero-min
-take-min (suc n) [] = rw min-zero
-take-min (suc n) (x ∷ xs) = rw (suc-min-suc, take-min n xs)
-
--- a length above that of the array reads the whole array
-pub take-short : (n k m : ℕ) (xs : List ℕ) → length xs ≡ m → k ≡ min n m → take k xs ≡ take n xs
-take-short n k m xs h e = rw (e, ← h, take-min n xs)
-
 -- ---- the ids of a list, place by place
 
 module _ (xs : List (List ℕ)) (i : ℕ) (p₀ p : Page) (inv : idsFrom 0 xs p₀ ≡ idsFrom i (drop i xs) p) where
@@ -44,3 +36,14 @@ module _ (xs : List (List ℕ)) (i : ℕ) (p₀ p : Page) (inv : idsFrom 0 xs p�
   pub ids-end : length xs ≤ i → p ≡ idsFrom 0 xs p₀
   unfolding idsFrom
   ids-end h = sym (inv ∙ rw (drop-of-length-le xs h))
+
+-- ---- the fields of a line, place by place
+
+module _ (lent : List ℕ) (fs : List Field) (i : ℕ) (p₀ p : Page) (inv : putFields lent fs p₀ ≡ putFields lent (drop i fs) p) where
+  pub fields-again : (d : Field) (q : Page) → i < length fs → q ≡ putField lent (getD fs i d) p → putFields lent fs p₀ ≡ putFields lent (drop (i + 1) fs) q
+  unfolding putFields
+  fields-again d q h e = inv ∙ rw (e, add-one, drop-cons fs i d h)
+
+  pub fields-end : length fs ≤ i → p ≡ putFields lent fs p₀
+  unfolding putFields
+  fields-end h = sym (inv ∙ rw (drop-of-length-le fs h))

@@ -1,3 +1,5 @@
 pub mod Answer
+pub mod Fields
 pub mod Page
 pub mod Parts
+pub mod Table

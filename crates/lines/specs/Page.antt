@@ -3,7 +3,7 @@ use mathlib.Core.Bool.{Bool, cond}
 use mathlib.Core.List.{List, [], _∷_}
 use Prim.Native.Nat.{ℕ, _+_, _/_, _%_}
 use lib.Dec.{eqb, ltb}
-use lib.ListN.{length}
+use lib.ListN.{length, take}
 use Rattle.arrays.specs.Arrays.{put}
 use Rattle.ascii.specs.Ascii.{ascii}
 use Rattle.decimal.specs.Decimal.{decimalOf}
@@ -46,6 +46,17 @@ item key n p = p ▸ text key ▸ number n
 
 unfoldable pub flag : List ℕ → Bool → Page → Page
 flag key b p = p ▸ text key ▸ yesNo b
+
+unfoldable pub word : List ℕ → List ℕ → Page → Page
+word key w p = p ▸ text key ▸ text w
+
+-- bytes that are known, or none
+unfoldable pub known : Bool → List ℕ → Page → Page
+known b s p = cond b (bytes s p) (text (ascii "none") p)
+
+-- n digits as bytes, or `-` for none
+unfoldable pub digits : List ℕ → ℕ → Page → Page
+digits code n p = cond (eqb n 0) (text (ascii "-") p) (bytes (take n code) p)
 
 -- the digit of n for a unit, a power of 16, if n has one
 unfoldable pub digitFrom : ℕ → ℕ → Page → Page

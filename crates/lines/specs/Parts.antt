@@ -1,9 +1,6 @@
 -- Parts of lines: ids and lists of them, methods, digits.
-use mathlib.Core.Bool.{cond}
 use mathlib.Core.List.{List, [], _∷_}
 use Prim.Native.Nat.{ℕ, _+_}
-use lib.Dec.{eqb}
-use lib.ListN.{take}
 use Rattle.ascii.specs.Ascii.{ascii}
 use Rattle.phones.specs.Phones.{idBytes}
 use Rattle.state.specs.declared.Method.{Method}
@@ -22,7 +19,3 @@ idsFrom i (x ∷ xs) p = idsFrom (i + 1) xs (idAt i x p)
 -- ID/KIND/APPROVAL
 unfoldable pub method : Method → Page → Page
 method m p = p ▸ bytes (idBytes (m .id)) ▸ text (ascii "/") ▸ text (kindName (m .kind)) ▸ flag (ascii "/") (m .«needs_approval»)
-
--- n digits as bytes, or `-` for none
-unfoldable pub digits : List ℕ → ℕ → Page → Page
-digits code n p = cond (eqb n 0) (text (ascii "-") p) (bytes (take n code) p)

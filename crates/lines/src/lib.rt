@@ -1,19 +1,15 @@
 // Laying down the lines that a replay prints. Each `put_` function writes over `out` from `at` on and answers the place
 // after what it wrote; what does not fit is left out.
 pub mod answer;
+pub mod fields;
+pub mod key;
 pub mod parts;
+pub mod word;
 
 ghost use mathlib.Core.Path.{_≡_};
-ghost use Prim.Native.Nat.{_-_, _≤_, _<_, min};
+ghost use Prim.Native.Nat.{_-_, _≤_, _<_};
 ghost use lib.ListN.{length, take, drop};
 ghost use Rattle.lines.specs.Page.{page, text, number, bytes, yesNo, comma, item, flag, digitFrom, hexadecimal};
-
-// A length, at most `most`.
-pub fn short(n: usize, most: usize) -> usize
-    ensures { λ r. ⌜ r ≡ min n most ⌝ }
-{
-    if n < most { n } else { most }
-}
 
 pub fn put_text(out: &mut [u8], at: usize, src: &[u8]) -> usize
     ensures { λ r. ⌜ page (now (out .exit)) r ≡ text (now (src .entry)) (page (now (out .entry)) at) ⌝ }

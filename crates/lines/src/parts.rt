@@ -8,15 +8,14 @@ ghost use mathlib.Core.List.{[]};
 ghost use lib.ListN.{take, getD};
 ghost use Rattle.phones.specs.Phones.{idBytes, phonesOf};
 ghost use Rattle.lines.specs.Page.{page, bytes};
-ghost use Rattle.lines.specs.Parts.{idAt, idsFrom, method, digits};
+ghost use Rattle.lines.specs.Parts.{idAt, idsFrom, method};
 
 // An id.
 pub fn put_phone(out: &mut [u8], at: usize, p: ShortId) -> usize
     ensures { λ r. ⌜ page (now (out .exit)) r ≡ bytes (idBytes p) (page (now (out .entry)) at) ⌝ }
 {
     let all = p.bytes;
-    let n = crate::short(p.len, 32);
-    crate::put_bytes(out, at, &all[..n])
+    crate::fields::put_first(out, at, &all, p.len)
 }
 
 // The id at a place of a list.
@@ -50,7 +49,8 @@ pub fn put_method(out: &mut [u8], at: usize, m: Method) -> usize
     let k = put_phone(out, at, id);
     let k = crate::put_text(out, k, b"/");
     let what = m.kind;
-    let k = crate::answer::put_kind(out, k, what);
+    let kind = crate::answer::kind_word(what);
+    let k = crate::fields::put_word(out, k, kind);
     crate::put_flag(out, k, b"/", m.needs_approval)
 }
 
@@ -59,17 +59,5 @@ pub fn put_saved(out: &mut [u8], at: usize, saved: SavedRecord) -> usize
     ensures { λ r. ⌜ page (now (out .exit)) r ≡ bytes (take (saved .len) (saved .bytes)) (page (now (out .entry)) at) ⌝ }
 {
     let all = saved.bytes;
-    let n = crate::short(saved.len, 1090);
-    crate::put_bytes(out, at, &all[..n])
-}
-
-// The first n digits.
-pub fn put_digits(out: &mut [u8], at: usize, code: [u8; 9], n: usize) -> usize
-    ensures { λ r. ⌜ page (now (out .exit)) r ≡ digits code n (page (now (out .entry)) at) ⌝ }
-{
-    if n == 0 {
-        return crate::put_text(out, at, b"-");
-    }
-    let k = crate::short(n, 9);
-    crate::put_bytes(out, at, &code[..k])
+    crate::fields::put_first(out, at, &all, saved.len)
 }

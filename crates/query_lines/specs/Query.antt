@@ -24,8 +24,8 @@ use Rattle.answers.specs.declared.TrustAnswer.{TrustAnswer}
 use Rattle.lines.specs.declared.answer.Held.{Held}
 use Rattle.lines.specs.declared.answer.Held.the-variants.{Fine, Blank, Item, Reply, Wrong}
 use Rattle.lines.specs.Answer.{heldBy, reply, answer}
-use Rattle.lines.specs.Page.{Page, _▸_, text, bytes, comma, item, flag}
-use Rattle.lines.specs.Parts.{idsFrom, method, digits}
+use Rattle.lines.specs.Page.{Page, _▸_, text, bytes, digits, comma, item, flag, word}
+use Rattle.lines.specs.Parts.{idsFrom, method}
 use Rattle.query_lines.specs.declared.Seen.{Seen}
 use Rattle.query_lines.specs.declared.Seen.the-variants.{Missing, Shown}
 
@@ -41,38 +41,39 @@ abbrev pub isDone : Answer → Bool
 isDone a = isFine (heldBy a)
 
 abbrev pub approvalName : Approval → List ℕ
-approvalName NotApproved = ascii " approval=not_approved"
-approvalName AwaitingCar = ascii " approval=awaiting_car"
-approvalName Approved = ascii " approval=approved"
-approvalName OtherCar = ascii " approval=other_car"
+approvalName NotApproved = ascii "not_approved"
+approvalName AwaitingCar = ascii "awaiting_car"
+approvalName Approved = ascii "approved"
+approvalName OtherCar = ascii "other_car"
 
 abbrev pub trustName : Trust → List ℕ
-trustName NotBonded = ascii " trust=not_bonded"
-trustName Bonded = ascii " trust=bonded"
-trustName Validated = ascii " trust=validated"
+trustName NotBonded = ascii "not_bonded"
+trustName Bonded = ascii "bonded"
+trustName Validated = ascii "validated"
+
+-- an answer, and what stands behind it if it is Done
+unfoldable pub told : Answer → (Page → Page) → Page → Page
+told a f p = cond (isDone a) (p ▸ answer a ▸ f) (p ▸ answer a)
 
 unfoldable pub approval : ApprovalAnswer → Page → Page
-approval a p = cond (isDone (a .answer)) (p ▸ answer (a .answer) ▸ text (approvalName (a .approval))) (p ▸ answer (a .answer))
-
-unfoldable pub confirmed : AccessAnswer → Page → Page
-confirmed a p = p ▸ flag (ascii " platform=") (a .platform) ▸ flag (ascii " car=") (a .car) ▸ text (approvalName (a .approval))
-
-unfoldable pub locks : AccessAnswer → Page → Page
-locks a p =
-    p ▸ flag (ascii " dev_lock=") (a .devlock) ▸ flag (ascii " dev_unlocked=") (a .unlocked) ▸ flag (ascii " logging=") (a .logging)
-    ▸ flag (ascii " read_only=") (a .readonly)
+approval a = told (a .answer) (λ p. p ▸ word (ascii " approval=") (approvalName (a .approval)))
 
 unfoldable pub access : AccessAnswer → Page → Page
-access a p = cond (isDone (a .answer)) (p ▸ answer (a .answer) ▸ confirmed a ▸ locks a) (p ▸ answer (a .answer))
+access a =
+    told (a .answer) (λ p.
+    p ▸ flag (ascii " platform=") (a .platform) ▸ flag (ascii " car=") (a .car) ▸ word (ascii " approval=") (approvalName (a .approval))
+    ▸ flag (ascii " dev_lock=") (a .devlock) ▸ flag (ascii " dev_unlocked=") (a .unlocked) ▸ flag (ascii " logging=") (a .logging)
+    ▸ flag (ascii " read_only=") (a .readonly))
 
 unfoldable pub phonesListed : PhonesAnswer → Page → Page
-phonesListed a p = cond (isDone (a .answer)) (p ▸ answer (a .answer) ▸ item (ascii " count=") (length (phonesOf (a .phones))) ▸ text (ascii " phones=") ▸ idsFrom 0 (phonesOf (a .phones))) (p ▸ answer (a .answer))
+phonesListed a =
+    told (a .answer) (λ p. p ▸ item (ascii " count=") (length (phonesOf (a .phones))) ▸ text (ascii " phones=") ▸ idsFrom 0 (phonesOf (a .phones)))
 
 unfoldable pub trust : TrustAnswer → Page → Page
-trust a p = cond (isDone (a .answer)) (p ▸ answer (a .answer) ▸ text (trustName (a .trust))) (p ▸ answer (a .answer))
+trust a = told (a .answer) (λ p. p ▸ word (ascii " trust=") (trustName (a .trust)))
 
 unfoldable pub peer : PeerAnswer → Page → Page
-peer a p = cond (isDone (a .answer)) (p ▸ answer (a .answer) ▸ text (ascii " peer=") ▸ bytes (idBytes (a .peer)) ▸ flag (ascii " validated=") (a .validated)) (p ▸ answer (a .answer))
+peer a = told (a .answer) (λ p. p ▸ text (ascii " peer=") ▸ bytes (idBytes (a .peer)) ▸ flag (ascii " validated=") (a .validated))
 
 -- the session of a phone, or none
 abbrev pub seenIn : Held → Seen
@@ -86,11 +87,14 @@ abbrev pub seen : Answer → Seen
 seen a = seenIn (heldBy a)
 
 abbrev pub shown : Seen → Page → Page
-shown Missing p = text (ascii " session=none") p
+shown Missing p = word (ascii " session=") (ascii "none") p
 shown (Shown r) p = reply r p
 
 unfoldable pub phoneAccess : PhoneAccessAnswer → Page → Page
-phoneAccess a p = cond (isDone (a .answer)) (p ▸ answer (a .answer) ▸ text (trustName (a .trust)) ▸ flag (ascii " car_has_validated=") (a .«car_has_validated») ▸ shown (seen (a .session))) (p ▸ answer (a .answer))
+phoneAccess a =
+    told (a .answer) (λ p.
+    p ▸ word (ascii " trust=") (trustName (a .trust)) ▸ flag (ascii " car_has_validated=") (a .«car_has_validated»)
+    ▸ shown (seen (a .session)))
 
 -- ID/KIND/APPROVAL/AVAILABLE of the method at a place, if there is one
 unfoldable pub methodAt : MethodsAnswer → ℕ → Page → Page
@@ -102,17 +106,13 @@ methodsTo a zero p = p
 methodsTo a (suc n) p = p ▸ methodsTo a n ▸ methodAt a n
 
 unfoldable pub methods : MethodsAnswer → Page → Page
-methods a p =
-    cond (isDone (a .answer))
-    (p ▸ answer (a .answer) ▸ item (ascii " count=") (a .count) ▸ text (ascii " methods=") ▸ methodsTo a 8)
-    (p ▸ answer (a .answer))
+methods a = told (a .answer) (λ p. p ▸ item (ascii " count=") (a .count) ▸ text (ascii " methods=") ▸ methodsTo a 8)
 
 unfoldable pub challenge : ChallengeAnswer → Page → Page
-challenge a p =
-    cond (isDone (a .answer))
-    (p ▸ answer (a .answer) ▸ item (ascii " session=") (a .challenge .session) ▸ item (ascii " method=") (a .challenge .method)
+challenge a =
+    told (a .answer) (λ p.
+    p ▸ item (ascii " session=") (a .challenge .session) ▸ item (ascii " method=") (a .challenge .method)
     ▸ text (ascii " code=") ▸ digits (a .challenge .code) (a .challenge .length))
-    (p ▸ answer (a .answer))
 
 unfoldable pub encoded : RecordAnswer → Page → Page
-encoded a p = cond (isDone (a .answer)) (p ▸ answer (a .answer) ▸ text (ascii " record=") ▸ bytes (take (a .stored .len) (a .stored .bytes))) (p ▸ answer (a .answer))
+encoded a = told (a .answer) (λ p. p ▸ text (ascii " record=") ▸ bytes (take (a .stored .len) (a .stored .bytes)))

@@ -9,14 +9,21 @@ use answers::PhonesAnswer;
 use answers::RecordAnswer;
 use answers::TrustAnswer;
 use lines::answer::Held;
+use lines::fields::Field;
+use lines::key;
+use lines::word;
 use phone_trust::Trust;
 use policy::Approval;
 use state::Answer;
 use state::SessionReply;
 ghost use mathlib.Core.Path.{_≡_};
+ghost use mathlib.Core.List.{[]};
 ghost use Prim.Native.Nat.{_<_};
-ghost use Rattle.lines.specs.Page.{page, text};
-ghost use Rattle.query_lines.specs.Query.{isDone, approvalName, trustName, approval, confirmed, locks, access, phonesListed, trust, peer, seen, shown, phoneAccess, methodAt, methodsTo, methods, challenge, encoded};
+ghost use lib.ListN.{getD};
+ghost use Rattle.lines.specs.Page.{page};
+ghost use Rattle.lines.specs.Table.{words};
+ghost use Rattle.lines.specs.Fields.{putFields};
+ghost use Rattle.query_lines.specs.Query.{isDone, approvalName, trustName, told, approval, access, phonesListed, trust, peer, seen, shown, phoneAccess, methodAt, methodsTo, methods, challenge, encoded};
 
 // The session of a phone, or none.
 pub enum Seen {
@@ -27,7 +34,8 @@ pub enum Seen {
 fn is_done(a: Answer) -> bool
     ensures { λ r. ⌜ r ≡ isDone a ⌝ }
 {
-    let h = lines::answer::held_by(a);
+    let s = lines::answer::shown_by(a);
+    let h = s.1;
     match h {
         Held::Fine => true,
         Held::Blank => false,
@@ -37,79 +45,94 @@ fn is_done(a: Answer) -> bool
     }
 }
 
-fn put_approval_name(out: &mut [u8], at: usize, a: Approval) -> usize
-    ensures { λ r. ⌜ page (now (out .exit)) r ≡ text (approvalName a) (page (now (out .entry)) at) ⌝ }
+fn approval_word(a: Approval) -> usize
+    ensures { λ r. ⌜ getD words r [] ≡ approvalName a ⌝ }
 {
     match a {
-        Approval::NotApproved => lines::put_text(out, at, b" approval=not_approved"),
-        Approval::AwaitingCar => lines::put_text(out, at, b" approval=awaiting_car"),
-        Approval::Approved => lines::put_text(out, at, b" approval=approved"),
-        Approval::OtherCar => lines::put_text(out, at, b" approval=other_car"),
+        Approval::NotApproved => word::NOT_APPROVED,
+        Approval::AwaitingCar => word::AWAITING_CAR,
+        Approval::Approved => word::APPROVED,
+        Approval::OtherCar => word::OTHER_CAR,
     }
 }
 
-fn put_trust_name(out: &mut [u8], at: usize, t: Trust) -> usize
-    ensures { λ r. ⌜ page (now (out .exit)) r ≡ text (trustName t) (page (now (out .entry)) at) ⌝ }
+fn trust_word(t: Trust) -> usize
+    ensures { λ r. ⌜ getD words r [] ≡ trustName t ⌝ }
 {
     match t {
-        Trust::NotBonded => lines::put_text(out, at, b" trust=not_bonded"),
-        Trust::Bonded => lines::put_text(out, at, b" trust=bonded"),
-        Trust::Validated => lines::put_text(out, at, b" trust=validated"),
+        Trust::NotBonded => word::NOT_BONDED,
+        Trust::Bonded => word::BONDED,
+        Trust::Validated => word::VALIDATED,
     }
+}
+
+// The answer, and the fields behind it if it is Done.
+fn put_told(out: &mut [u8], at: usize, a: Answer, lent: &[u8], fields: [Field; 8]) -> usize
+    ensures { λ r. ⌜ page (now (out .exit)) r ≡ told a (putFields (now (lent .entry)) fields) (page (now (out .entry)) at) ⌝ }
+{
+    let k = lines::answer::put_answer(out, at, a);
+    if is_done(a) {
+        return lines::fields::put_fields(out, k, lent, fields);
+    }
+    k
 }
 
 pub fn put_approval(out: &mut [u8], at: usize, a: ApprovalAnswer) -> usize
     ensures { λ r. ⌜ page (now (out .exit)) r ≡ approval a (page (now (out .entry)) at) ⌝ }
 {
-    let told = a.answer;
-    let k = lines::answer::put_answer(out, at, told);
-    if is_done(told) {
-        let what = a.approval;
-        return put_approval_name(out, k, what);
-    }
-    k
-}
-
-fn put_confirmed(out: &mut [u8], at: usize, a: AccessAnswer) -> usize
-    ensures { λ r. ⌜ page (now (out .exit)) r ≡ confirmed a (page (now (out .entry)) at) ⌝ }
-{
-    let k = lines::put_flag(out, at, b" platform=", a.platform);
-    let k = lines::put_flag(out, k, b" car=", a.car);
     let what = a.approval;
-    put_approval_name(out, k, what)
-}
-
-fn put_locks(out: &mut [u8], at: usize, a: AccessAnswer) -> usize
-    ensures { λ r. ⌜ page (now (out .exit)) r ≡ locks a (page (now (out .entry)) at) ⌝ }
-{
-    let k = lines::put_flag(out, at, b" dev_lock=", a.devlock);
-    let k = lines::put_flag(out, k, b" dev_unlocked=", a.unlocked);
-    let k = lines::put_flag(out, k, b" logging=", a.logging);
-    lines::put_flag(out, k, b" read_only=", a.readonly)
+    let w = approval_word(what);
+    let fields = [
+        Field::Word(key::APPROVAL, w),
+        Field::Nothing,
+        Field::Nothing,
+        Field::Nothing,
+        Field::Nothing,
+        Field::Nothing,
+        Field::Nothing,
+        Field::Nothing,
+    ];
+    let answer = a.answer;
+    put_told(out, at, answer, b"", fields)
 }
 
 pub fn put_access(out: &mut [u8], at: usize, a: AccessAnswer) -> usize
     ensures { λ r. ⌜ page (now (out .exit)) r ≡ access a (page (now (out .entry)) at) ⌝ }
 {
-    let told = a.answer;
-    let k = lines::answer::put_answer(out, at, told);
-    if is_done(told) {
-        let k = put_confirmed(out, k, a);
-        return put_locks(out, k, a);
-    }
-    k
+    let what = a.approval;
+    let w = approval_word(what);
+    let fields = [
+        Field::Flag(key::PLATFORM, a.platform),
+        Field::Flag(key::CAR, a.car),
+        Field::Word(key::APPROVAL, w),
+        Field::Flag(key::DEV_LOCK, a.devlock),
+        Field::Flag(key::DEV_UNLOCKED, a.unlocked),
+        Field::Flag(key::LOGGING, a.logging),
+        Field::Flag(key::READ_ONLY, a.readonly),
+        Field::Nothing,
+    ];
+    let answer = a.answer;
+    put_told(out, at, answer, b"", fields)
 }
 
 pub fn put_phones_listed(out: &mut [u8], at: usize, a: PhonesAnswer) -> usize
     ensures { λ r. ⌜ page (now (out .exit)) r ≡ phonesListed a (page (now (out .entry)) at) ⌝ }
 {
-    let told = a.answer;
-    let k = lines::answer::put_answer(out, at, told);
-    if is_done(told) {
-        let list = a.phones;
-        let n = phones::count(list);
-        let k = lines::put_item(out, k, b" count=", n as u64);
-        let k = lines::put_text(out, k, b" phones=");
+    let list = a.phones;
+    let n = phones::count(list);
+    let fields = [
+        Field::Number(key::COUNT, n as u64),
+        Field::Key(key::PHONES),
+        Field::Nothing,
+        Field::Nothing,
+        Field::Nothing,
+        Field::Nothing,
+        Field::Nothing,
+        Field::Nothing,
+    ];
+    let answer = a.answer;
+    let k = put_told(out, at, answer, b"", fields);
+    if is_done(answer) {
         return lines::parts::put_phones(out, k, list);
     }
     k
@@ -118,38 +141,50 @@ pub fn put_phones_listed(out: &mut [u8], at: usize, a: PhonesAnswer) -> usize
 pub fn put_trust(out: &mut [u8], at: usize, a: TrustAnswer) -> usize
     ensures { λ r. ⌜ page (now (out .exit)) r ≡ trust a (page (now (out .entry)) at) ⌝ }
 {
-    let told = a.answer;
-    let k = lines::answer::put_answer(out, at, told);
-    if is_done(told) {
-        let what = a.trust;
-        return put_trust_name(out, k, what);
-    }
-    k
+    let what = a.trust;
+    let w = trust_word(what);
+    let fields = [
+        Field::Word(key::TRUST, w),
+        Field::Nothing,
+        Field::Nothing,
+        Field::Nothing,
+        Field::Nothing,
+        Field::Nothing,
+        Field::Nothing,
+        Field::Nothing,
+    ];
+    let answer = a.answer;
+    put_told(out, at, answer, b"", fields)
 }
 
 pub fn put_peer(out: &mut [u8], at: usize, a: PeerAnswer) -> usize
     ensures { λ r. ⌜ page (now (out .exit)) r ≡ peer a (page (now (out .entry)) at) ⌝ }
 {
-    let told = a.answer;
-    let k = lines::answer::put_answer(out, at, told);
-    if is_done(told) {
-        let k = lines::put_text(out, k, b" peer=");
-        let id = a.peer;
-        let k = lines::parts::put_phone(out, k, id);
-        return lines::put_flag(out, k, b" validated=", a.validated);
-    }
-    k
+    let id = a.peer.bytes;
+    let fields = [
+        Field::Bytes(key::PEER, a.peer.len),
+        Field::Flag(key::VALIDATED, a.validated),
+        Field::Nothing,
+        Field::Nothing,
+        Field::Nothing,
+        Field::Nothing,
+        Field::Nothing,
+        Field::Nothing,
+    ];
+    let answer = a.answer;
+    put_told(out, at, answer, &id, fields)
 }
 
 fn seen_in(a: Answer) -> Seen
     ensures { λ r. ⌜ r ≡ seen a ⌝ }
 {
-    let h = lines::answer::held_by(a);
+    let s = lines::answer::shown_by(a);
+    let h = s.1;
     match h {
         Held::Fine => Seen::Missing,
         Held::Blank => Seen::Missing,
         Held::Item(_, _) => Seen::Missing,
-        Held::Reply(s) => Seen::Shown(s),
+        Held::Reply(r) => Seen::Shown(r),
         Held::Wrong(_) => Seen::Missing,
     }
 }
@@ -158,7 +193,9 @@ fn put_seen(out: &mut [u8], at: usize, s: Seen) -> usize
     ensures { λ r. ⌜ page (now (out .exit)) r ≡ shown s (page (now (out .entry)) at) ⌝ }
 {
     match s {
-        Seen::Missing => lines::put_text(out, at, b" session=none"),
+        Seen::Missing => {
+            lines::fields::put_field(out, at, b"", Field::Word(key::SESSION, word::NONE))
+        }
         Seen::Shown(r) => lines::answer::put_reply(out, at, r),
     }
 }
@@ -166,12 +203,21 @@ fn put_seen(out: &mut [u8], at: usize, s: Seen) -> usize
 pub fn put_phone_access(out: &mut [u8], at: usize, a: PhoneAccessAnswer) -> usize
     ensures { λ r. ⌜ page (now (out .exit)) r ≡ phoneAccess a (page (now (out .entry)) at) ⌝ }
 {
-    let told = a.answer;
-    let k = lines::answer::put_answer(out, at, told);
-    if is_done(told) {
-        let what = a.trust;
-        let k = put_trust_name(out, k, what);
-        let k = lines::put_flag(out, k, b" car_has_validated=", a.car_has_validated);
+    let what = a.trust;
+    let w = trust_word(what);
+    let fields = [
+        Field::Word(key::TRUST, w),
+        Field::Flag(key::CAR_HAS_VALIDATED, a.car_has_validated),
+        Field::Nothing,
+        Field::Nothing,
+        Field::Nothing,
+        Field::Nothing,
+        Field::Nothing,
+        Field::Nothing,
+    ];
+    let answer = a.answer;
+    let k = put_told(out, at, answer, b"", fields);
+    if is_done(answer) {
         let session = a.session;
         let s = seen_in(session);
         return put_seen(out, k, s);
@@ -209,11 +255,19 @@ fn put_method_list(out: &mut [u8], at: usize, a: MethodsAnswer) -> usize
 pub fn put_methods(out: &mut [u8], at: usize, a: MethodsAnswer) -> usize
     ensures { λ r. ⌜ page (now (out .exit)) r ≡ methods a (page (now (out .entry)) at) ⌝ }
 {
-    let told = a.answer;
-    let k = lines::answer::put_answer(out, at, told);
-    if is_done(told) {
-        let k = lines::put_item(out, k, b" count=", a.count as u64);
-        let k = lines::put_text(out, k, b" methods=");
+    let fields = [
+        Field::Number(key::COUNT, a.count as u64),
+        Field::Key(key::METHODS),
+        Field::Nothing,
+        Field::Nothing,
+        Field::Nothing,
+        Field::Nothing,
+        Field::Nothing,
+        Field::Nothing,
+    ];
+    let answer = a.answer;
+    let k = put_told(out, at, answer, b"", fields);
+    if is_done(answer) {
         return put_method_list(out, k, a);
     }
     k
@@ -222,27 +276,35 @@ pub fn put_methods(out: &mut [u8], at: usize, a: MethodsAnswer) -> usize
 pub fn put_challenge(out: &mut [u8], at: usize, a: ChallengeAnswer) -> usize
     ensures { λ r. ⌜ page (now (out .exit)) r ≡ challenge a (page (now (out .entry)) at) ⌝ }
 {
-    let told = a.answer;
-    let k = lines::answer::put_answer(out, at, told);
-    if is_done(told) {
-        let k = lines::put_item(out, k, b" session=", a.challenge.session as u64);
-        let k = lines::put_item(out, k, b" method=", a.challenge.method as u64);
-        let k = lines::put_text(out, k, b" code=");
-        let code = a.challenge.code;
-        return lines::parts::put_digits(out, k, code, a.challenge.length);
-    }
-    k
+    let code = a.challenge.code;
+    let fields = [
+        Field::Number(key::SESSION, a.challenge.session as u64),
+        Field::Number(key::METHOD, a.challenge.method as u64),
+        Field::Digits(key::CODE, a.challenge.length),
+        Field::Nothing,
+        Field::Nothing,
+        Field::Nothing,
+        Field::Nothing,
+        Field::Nothing,
+    ];
+    let answer = a.answer;
+    put_told(out, at, answer, &code, fields)
 }
 
 pub fn put_encoded(out: &mut [u8], at: usize, a: RecordAnswer) -> usize
     ensures { λ r. ⌜ page (now (out .exit)) r ≡ encoded a (page (now (out .entry)) at) ⌝ }
 {
-    let told = a.answer;
-    let k = lines::answer::put_answer(out, at, told);
-    if is_done(told) {
-        let k = lines::put_text(out, k, b" record=");
-        let stored = a.stored;
-        return lines::parts::put_saved(out, k, stored);
-    }
-    k
+    let stored = a.stored.bytes;
+    let fields = [
+        Field::Bytes(key::RECORD, a.stored.len),
+        Field::Nothing,
+        Field::Nothing,
+        Field::Nothing,
+        Field::Nothing,
+        Field::Nothing,
+        Field::Nothing,
+        Field::Nothing,
+    ];
+    let answer = a.answer;
+    put_told(out, at, answer, &stored, fields)
 }

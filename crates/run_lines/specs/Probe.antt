@@ -10,7 +10,7 @@ use Rattle.frames.specs.declared.Id.the-variants.{Standard, Extended}
 use Rattle.frames.specs.declared.ProbeFrame.{ProbeFrame}
 use Rattle.state.specs.declared.Probe.{Probe}
 use Rattle.state.specs.declared.Window.{Window}
-use Rattle.lines.specs.Page.{Page, _▸_, text, bytes, comma, item, hexadecimal}
+use Rattle.lines.specs.Page.{Page, _▸_, text, bytes, comma, item, word, hexadecimal}
 
 -- KIND/ID
 abbrev pub idText : Id → Page → Page
@@ -42,14 +42,12 @@ unfoldable pub sentTo : Window → ℕ → Page → Page
 sentTo w zero p = p
 sentTo w (suc n) p = p ▸ sentTo w n ▸ sentAt w n
 
-unfoldable pub frames : Window → Page → Page
-frames w p = p ▸ item (ascii " window=") (w .bus) ▸ text (ascii " frames=") ▸ framesTo w 4
-
-unfoldable pub opened : Window → Page → Page
-opened w p = p ▸ item (ascii " opened_at=") (w .opened) ▸ item (ascii " relocks_then=") (w .relocks) ▸ text (ascii " sent=") ▸ sentTo w 4
-
 unfoldable pub window : Window → Page → Page
-window w p = cond (w .present) (p ▸ frames w ▸ opened w) (text (ascii " window=none") p)
+window w p =
+    cond (w .present)
+    (p ▸ item (ascii " window=") (w .bus) ▸ text (ascii " frames=") ▸ framesTo w 4
+    ▸ item (ascii " opened_at=") (w .opened) ▸ item (ascii " relocks_then=") (w .relocks) ▸ text (ascii " sent=") ▸ sentTo w 4)
+    (p ▸ word (ascii " window=") (ascii "none"))
 
 unfoldable pub marks : List ℕ → Page → Page
 marks m p = p ▸ item (ascii " marks=") (getD m 0 0) ▸ item (ascii ",") (getD m 1 0) ▸ item (ascii ",") (getD m 2 0) ▸ item (ascii ",") (getD m 3 0)

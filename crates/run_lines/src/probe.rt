@@ -1,12 +1,15 @@
 // The probe of a gate.
 use frames::Id;
 use frames::ProbeFrame;
+use lines::fields::Field;
+use lines::key;
+use lines::word;
 use state::Probe;
 use state::Window;
 ghost use mathlib.Core.Path.{_≡_};
 ghost use Prim.Native.Nat.{_<_};
 ghost use Rattle.lines.specs.Page.{page};
-ghost use Rattle.run_lines.specs.Probe.{idText, frame, frameAt, framesTo, sentAt, sentTo, frames, opened, window, marks, probe};
+ghost use Rattle.run_lines.specs.Probe.{idText, frame, frameAt, framesTo, sentAt, sentTo, window, marks, probe};
 
 // KIND/ID
 fn put_id(out: &mut [u8], at: usize, id: Id) -> usize
@@ -87,44 +90,52 @@ fn put_sent_list(out: &mut [u8], at: usize, w: Window) -> usize
     k
 }
 
-fn put_frames(out: &mut [u8], at: usize, w: Window) -> usize
-    ensures { λ r. ⌜ page (now (out .exit)) r ≡ frames w (page (now (out .entry)) at) ⌝ }
-{
-    let k = lines::put_item(out, at, b" window=", w.bus as u64);
-    let k = lines::put_text(out, k, b" frames=");
-    put_frame_list(out, k, w)
-}
-
-fn put_opened(out: &mut [u8], at: usize, w: Window) -> usize
-    ensures { λ r. ⌜ page (now (out .exit)) r ≡ opened w (page (now (out .entry)) at) ⌝ }
-{
-    let k = lines::put_item(out, at, b" opened_at=", w.opened);
-    let k = lines::put_item(out, k, b" relocks_then=", w.relocks as u64);
-    let k = lines::put_text(out, k, b" sent=");
-    put_sent_list(out, k, w)
-}
-
 fn put_window(out: &mut [u8], at: usize, w: Window) -> usize
     ensures { λ r. ⌜ page (now (out .exit)) r ≡ window w (page (now (out .entry)) at) ⌝ }
 {
     if w.present {
-        let k = put_frames(out, at, w);
-        return put_opened(out, k, w);
+        let fields = [
+            Field::Number(key::WINDOW, w.bus as u64),
+            Field::Key(key::FRAMES),
+            Field::Nothing,
+            Field::Nothing,
+            Field::Nothing,
+            Field::Nothing,
+            Field::Nothing,
+            Field::Nothing,
+        ];
+        let k = lines::fields::put_fields(out, at, b"", fields);
+        let k = put_frame_list(out, k, w);
+        let fields = [
+            Field::Number(key::OPENED_AT, w.opened),
+            Field::Number(key::RELOCKS_THEN, w.relocks as u64),
+            Field::Key(key::SENT),
+            Field::Nothing,
+            Field::Nothing,
+            Field::Nothing,
+            Field::Nothing,
+            Field::Nothing,
+        ];
+        let k = lines::fields::put_fields(out, k, b"", fields);
+        return put_sent_list(out, k, w);
     }
-    lines::put_text(out, at, b" window=none")
+    lines::fields::put_field(out, at, b"", Field::Word(key::WINDOW, word::NONE))
 }
 
 fn put_marks(out: &mut [u8], at: usize, m: [u32; 4]) -> usize
     ensures { λ r. ⌜ page (now (out .exit)) r ≡ marks m (page (now (out .entry)) at) ⌝ }
 {
-    let a = m[0] as u64;
-    let b = m[1] as u64;
-    let c = m[2] as u64;
-    let d = m[3] as u64;
-    let k = lines::put_item(out, at, b" marks=", a);
-    let k = lines::put_item(out, k, b",", b);
-    let k = lines::put_item(out, k, b",", c);
-    lines::put_item(out, k, b",", d)
+    let fields = [
+        Field::Number(key::MARKS, m[0] as u64),
+        Field::Number(key::COMMA, m[1] as u64),
+        Field::Number(key::COMMA, m[2] as u64),
+        Field::Number(key::COMMA, m[3] as u64),
+        Field::Nothing,
+        Field::Nothing,
+        Field::Nothing,
+        Field::Nothing,
+    ];
+    lines::fields::put_fields(out, at, b"", fields)
 }
 
 pub fn put_probe(out: &mut [u8], at: usize, p: Probe) -> usize
@@ -132,8 +143,17 @@ pub fn put_probe(out: &mut [u8], at: usize, p: Probe) -> usize
 {
     let w = p.window;
     let k = put_window(out, at, w);
-    let k = lines::put_item(out, k, b" attempts=", p.attempts as u64);
-    let k = lines::put_item(out, k, b" relocks=", p.relocks as u64);
+    let fields = [
+        Field::Number(key::ATTEMPTS, p.attempts as u64),
+        Field::Number(key::RELOCKS, p.relocks as u64),
+        Field::Nothing,
+        Field::Nothing,
+        Field::Nothing,
+        Field::Nothing,
+        Field::Nothing,
+        Field::Nothing,
+    ];
+    let k = lines::fields::put_fields(out, k, b"", fields);
     let m = p.marks;
     put_marks(out, k, m)
 }

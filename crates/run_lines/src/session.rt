@@ -1,9 +1,12 @@
 // The session of a gate.
+use lines::fields::Field;
+use lines::key;
+use lines::word;
 use state::Gate;
 use state::Session;
 ghost use mathlib.Core.Path.{_≡_};
 ghost use Rattle.lines.specs.Page.{page};
-ghost use Rattle.run_lines.specs.Session.{code, whose, stands, left, session, sessionOrNone};
+ghost use Rattle.run_lines.specs.Session.{code, whose, stands, sessionOrNone};
 
 // The code is kept while a code entry session is in progress.
 fn put_code(out: &mut [u8], at: usize, g: Gate) -> usize
@@ -12,48 +15,47 @@ fn put_code(out: &mut [u8], at: usize, g: Gate) -> usize
     let m = g.core.methods;
     let s = g.core.validation.session;
     if state::running::code_in_progress(m, s) {
-        let k = lines::put_text(out, at, b" code=");
         let digits = g.code;
-        return lines::parts::put_digits(out, k, digits, g.core.settings.digits);
+        let n = g.core.settings.digits;
+        return lines::fields::put_field(out, at, &digits, Field::Digits(key::CODE, n));
     }
-    lines::put_text(out, at, b" code=-")
+    lines::fields::put_field(out, at, b"", Field::Digits(key::CODE, 0))
 }
 
 fn put_whose(out: &mut [u8], at: usize, s: Session) -> usize
     ensures { λ r. ⌜ page (now (out .exit)) r ≡ whose s (page (now (out .entry)) at) ⌝ }
 {
-    let k = lines::put_item(out, at, b" session=", s.number as u64);
-    let k = lines::put_text(out, k, b" phone=");
-    let phone = s.phone;
-    let k = lines::parts::put_phone(out, k, phone);
-    lines::put_item(out, k, b" method=", s.method as u64)
+    let phone = s.phone.bytes;
+    let fields = [
+        Field::Number(key::SESSION, s.number as u64),
+        Field::Bytes(key::PHONE, s.phone.len),
+        Field::Number(key::METHOD, s.method as u64),
+        Field::Nothing,
+        Field::Nothing,
+        Field::Nothing,
+        Field::Nothing,
+        Field::Nothing,
+    ];
+    lines::fields::put_fields(out, at, &phone, fields)
 }
 
 fn put_stands(out: &mut [u8], at: usize, s: Session) -> usize
     ensures { λ r. ⌜ page (now (out .exit)) r ≡ stands s (page (now (out .entry)) at) ⌝ }
 {
-    let k = lines::put_text(out, at, b" session_car=");
-    let digest = s.car;
-    let k = lines::put_bytes(out, k, &digest);
-    let k = lines::put_text(out, k, b" status=");
     let how = s.status;
-    lines::answer::put_status(out, k, how)
-}
-
-fn put_left(out: &mut [u8], at: usize, s: Session) -> usize
-    ensures { λ r. ⌜ page (now (out .exit)) r ≡ left s (page (now (out .entry)) at) ⌝ }
-{
-    let k = lines::put_item(out, at, b" tries_left=", s.tries as u64);
-    let k = lines::put_item(out, k, b" deadline=", s.deadline);
-    lines::put_item(out, k, b" ended_at=", s.ended)
-}
-
-fn put_session(out: &mut [u8], at: usize, s: Session) -> usize
-    ensures { λ r. ⌜ page (now (out .exit)) r ≡ session s (page (now (out .entry)) at) ⌝ }
-{
-    let k = put_whose(out, at, s);
-    let k = put_stands(out, k, s);
-    put_left(out, k, s)
+    let status = lines::answer::status_word(how);
+    let digest = s.car;
+    let fields = [
+        Field::Known(key::SESSION_CAR, true),
+        Field::Word(key::STATUS, status),
+        Field::Number(key::TRIES_LEFT, s.tries as u64),
+        Field::Number(key::DEADLINE, s.deadline),
+        Field::Number(key::ENDED_AT, s.ended),
+        Field::Nothing,
+        Field::Nothing,
+        Field::Nothing,
+    ];
+    lines::fields::put_fields(out, at, &digest, fields)
 }
 
 pub fn put_session_or_none(out: &mut [u8], at: usize, g: Gate) -> usize
@@ -61,8 +63,9 @@ pub fn put_session_or_none(out: &mut [u8], at: usize, g: Gate) -> usize
 {
     let s = g.core.validation.session;
     if s.present {
-        let k = put_session(out, at, s);
+        let k = put_whose(out, at, s);
+        let k = put_stands(out, k, s);
         return put_code(out, k, g);
     }
-    lines::put_text(out, at, b" session=none")
+    lines::fields::put_field(out, at, b"", Field::Word(key::SESSION, word::NONE))
 }

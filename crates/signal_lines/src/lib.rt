@@ -75,7 +75,7 @@ fn put_running(out: &mut [u8], at: usize, c: Challenge) -> usize
     let k = lines::put_item(out, k, b"/", c.method as u64);
     let k = lines::put_text(out, k, b"/");
     let code = c.code;
-    lines::parts::put_digits(out, k, code, c.length)
+    lines::fields::put_digits(out, k, &code, c.length)
 }
 
 fn put_challenge(out: &mut [u8], at: usize, from: usize, s: ChallengeSignal) -> usize

@@ -1,8 +1,10 @@
 // The whole state of a gate.
+use lines::fields::Field;
+use lines::key;
+use lines::word;
 use phones::ShortId;
 use state::Access;
 use state::Buses;
-use state::Car;
 use state::Core;
 use state::Gate;
 use state::Identity;
@@ -13,29 +15,22 @@ use state::Validations;
 ghost use mathlib.Core.Path.{_≡_};
 ghost use Prim.Native.Nat.{_<_};
 ghost use Rattle.lines.specs.Page.{page};
-ghost use Rattle.state_lines.specs.Whole.{limits, times, settings, methodAt, methodsTo, methods, car, identity, access, fd, buses, policy, validated, peer, pairings, front, gate};
-
-fn put_limits(out: &mut [u8], at: usize, s: Settings) -> usize
-    ensures { λ r. ⌜ page (now (out .exit)) r ≡ limits s (page (now (out .entry)) at) ⌝ }
-{
-    let k = lines::put_item(out, at, b" digits=", s.digits as u64);
-    let k = lines::put_item(out, k, b" tries=", s.tries as u64);
-    lines::put_item(out, k, b" session_ms=", s.session)
-}
-
-fn put_times(out: &mut [u8], at: usize, s: Settings) -> usize
-    ensures { λ r. ⌜ page (now (out .exit)) r ≡ times s (page (now (out .entry)) at) ⌝ }
-{
-    let k = lines::put_item(out, at, b" cooldown_ms=", s.cooldown);
-    let k = lines::put_item(out, k, b" keep_ms=", s.keep);
-    lines::put_item(out, k, b" bonded=", s.bonded as u64)
-}
+ghost use Rattle.state_lines.specs.Whole.{settings, methodAt, methodsTo, identity, access, buses, policy, validated, peer, pairings, front, gate};
 
 fn put_settings(out: &mut [u8], at: usize, s: Settings) -> usize
     ensures { λ r. ⌜ page (now (out .exit)) r ≡ settings s (page (now (out .entry)) at) ⌝ }
 {
-    let k = put_limits(out, at, s);
-    put_times(out, k, s)
+    let fields = [
+        Field::Number(key::DIGITS, s.digits as u64),
+        Field::Number(key::TRIES, s.tries as u64),
+        Field::Number(key::SESSION_MS, s.session),
+        Field::Number(key::COOLDOWN_MS, s.cooldown),
+        Field::Number(key::KEEP_MS, s.keep),
+        Field::Number(key::BONDED, s.bonded as u64),
+        Field::Key(key::METHODS),
+        Field::Nothing,
+    ];
+    lines::fields::put_fields(out, at, b"", fields)
 }
 
 // The method at a place, if there is one.
@@ -67,58 +62,95 @@ fn put_method_list(out: &mut [u8], at: usize, m: Methods) -> usize
     k
 }
 
-fn put_methods(out: &mut [u8], at: usize, m: Methods) -> usize
-    ensures { λ r. ⌜ page (now (out .exit)) r ≡ methods m (page (now (out .entry)) at) ⌝ }
-{
-    let k = lines::put_text(out, at, b" methods=");
-    put_method_list(out, k, m)
-}
-
-fn put_car(out: &mut [u8], at: usize, key: &[u8], c: Car) -> usize
-    ensures { λ r. ⌜ page (now (out .exit)) r ≡ car (now (key .entry)) c (page (now (out .entry)) at) ⌝ }
-{
-    let k = lines::put_text(out, at, key);
-    if c.known {
-        let digest = c.digest;
-        return lines::put_bytes(out, k, &digest);
-    }
-    lines::put_text(out, k, b"none")
-}
-
 fn put_identity(out: &mut [u8], at: usize, i: Identity) -> usize
     ensures { λ r. ⌜ page (now (out .exit)) r ≡ identity i (page (now (out .entry)) at) ⌝ }
 {
-    let k = lines::put_item(out, at, b" platform_number=", i.platform as u64);
-    let k = lines::put_flag(out, k, b" platform_confirmed=", i.confirmed);
-    let c = i.car;
-    put_car(out, k, b" car=", c)
+    let digest = i.car.digest;
+    let fields = [
+        Field::Number(key::PLATFORM_NUMBER, i.platform as u64),
+        Field::Flag(key::PLATFORM_CONFIRMED, i.confirmed),
+        Field::Known(key::CAR, i.car.known),
+        Field::Nothing,
+        Field::Nothing,
+        Field::Nothing,
+        Field::Nothing,
+        Field::Nothing,
+    ];
+    lines::fields::put_fields(out, at, &digest, fields)
 }
 
 fn put_access(out: &mut [u8], at: usize, a: Access) -> usize
     ensures { λ r. ⌜ page (now (out .exit)) r ≡ access a (page (now (out .entry)) at) ⌝ }
 {
-    let c = a.approval;
-    let k = put_car(out, at, b" approval=", c);
-    let k = lines::put_flag(out, k, b" dev_unlocked=", a.unlocked);
-    lines::put_flag(out, k, b" production=", a.production)
-}
-
-fn put_fd(out: &mut [u8], at: usize, on: [bool; 4]) -> usize
-    ensures { λ r. ⌜ page (now (out .exit)) r ≡ fd on (page (now (out .entry)) at) ⌝ }
-{
-    let k = lines::put_flag(out, at, b" fd=", on[0]);
-    let k = lines::put_flag(out, k, b",", on[1]);
-    let k = lines::put_flag(out, k, b",", on[2]);
-    lines::put_flag(out, k, b",", on[3])
+    let digest = a.approval.digest;
+    let fields = [
+        Field::Known(key::APPROVAL, a.approval.known),
+        Field::Flag(key::DEV_UNLOCKED, a.unlocked),
+        Field::Flag(key::PRODUCTION, a.production),
+        Field::Nothing,
+        Field::Nothing,
+        Field::Nothing,
+        Field::Nothing,
+        Field::Nothing,
+    ];
+    lines::fields::put_fields(out, at, &digest, fields)
 }
 
 fn put_buses(out: &mut [u8], at: usize, b: Buses) -> usize
     ensures { λ r. ⌜ page (now (out .exit)) r ≡ buses b (page (now (out .entry)) at) ⌝ }
 {
-    let k = lines::put_flag(out, at, b" vehicle_read_only=", b.vehicle_read_only);
-    let k = lines::put_flag(out, k, b" logging=", b.logging);
     let on = b.fd;
-    put_fd(out, k, on)
+    let fields = [
+        Field::Flag(key::VEHICLE_READ_ONLY, b.vehicle_read_only),
+        Field::Flag(key::LOGGING, b.logging),
+        Field::Flag(key::FD, on[0]),
+        Field::Flag(key::COMMA, on[1]),
+        Field::Flag(key::COMMA, on[2]),
+        Field::Flag(key::COMMA, on[3]),
+        Field::Key(key::PAIRED),
+        Field::Nothing,
+    ];
+    lines::fields::put_fields(out, at, b"", fields)
+}
+
+fn put_validated(out: &mut [u8], at: usize, v: Validations) -> usize
+    ensures { λ r. ⌜ page (now (out .exit)) r ≡ validated v (page (now (out .entry)) at) ⌝ }
+{
+    let list = v.phones;
+    let digest = v.car;
+    let fields = [
+        Field::Known(key::VALIDATED_CAR, 0 < list.count),
+        Field::Key(key::VALIDATED),
+        Field::Nothing,
+        Field::Nothing,
+        Field::Nothing,
+        Field::Nothing,
+        Field::Nothing,
+        Field::Nothing,
+    ];
+    let k = lines::fields::put_fields(out, at, &digest, fields);
+    lines::parts::put_phones(out, k, list)
+}
+
+fn put_peer(out: &mut [u8], at: usize, id: ShortId) -> usize
+    ensures { λ r. ⌜ page (now (out .exit)) r ≡ peer id (page (now (out .entry)) at) ⌝ }
+{
+    if id.len == 0 {
+        return lines::fields::put_field(out, at, b"", Field::Word(key::PEER, word::NONE));
+    }
+    let all = id.bytes;
+    lines::fields::put_field(out, at, &all, Field::Bytes(key::PEER, id.len))
+}
+
+fn put_pairings(out: &mut [u8], at: usize, core: Core) -> usize
+    ensures { λ r. ⌜ page (now (out .exit)) r ≡ pairings core (page (now (out .entry)) at) ⌝ }
+{
+    let list = core.paired;
+    let k = lines::parts::put_phones(out, at, list);
+    let v = core.validations;
+    let k = put_validated(out, k, v);
+    let id = core.peer;
+    put_peer(out, k, id)
 }
 
 fn put_policy(out: &mut [u8], at: usize, p: Policy) -> usize
@@ -132,49 +164,13 @@ fn put_policy(out: &mut [u8], at: usize, p: Policy) -> usize
     put_buses(out, k, b)
 }
 
-fn put_validated(out: &mut [u8], at: usize, v: Validations) -> usize
-    ensures { λ r. ⌜ page (now (out .exit)) r ≡ validated v (page (now (out .entry)) at) ⌝ }
-{
-    let list = v.phones;
-    if list.count == 0 {
-        return lines::put_text(out, at, b" validated_car=none validated=");
-    }
-    let k = lines::put_text(out, at, b" validated_car=");
-    let digest = v.car;
-    let k = lines::put_bytes(out, k, &digest);
-    let k = lines::put_text(out, k, b" validated=");
-    lines::parts::put_phones(out, k, list)
-}
-
-fn put_peer(out: &mut [u8], at: usize, id: ShortId) -> usize
-    ensures { λ r. ⌜ page (now (out .exit)) r ≡ peer id (page (now (out .entry)) at) ⌝ }
-{
-    if id.len == 0 {
-        return lines::put_text(out, at, b" peer=none");
-    }
-    let k = lines::put_text(out, at, b" peer=");
-    lines::parts::put_phone(out, k, id)
-}
-
-fn put_pairings(out: &mut [u8], at: usize, core: Core) -> usize
-    ensures { λ r. ⌜ page (now (out .exit)) r ≡ pairings core (page (now (out .entry)) at) ⌝ }
-{
-    let k = lines::put_text(out, at, b" paired=");
-    let list = core.paired;
-    let k = lines::parts::put_phones(out, k, list);
-    let v = core.validations;
-    let k = put_validated(out, k, v);
-    let id = core.peer;
-    put_peer(out, k, id)
-}
-
 fn put_front(out: &mut [u8], at: usize, core: Core) -> usize
     ensures { λ r. ⌜ page (now (out .exit)) r ≡ front core (page (now (out .entry)) at) ⌝ }
 {
     let s = core.settings;
     let k = put_settings(out, at, s);
     let m = core.methods;
-    let k = put_methods(out, k, m);
+    let k = put_method_list(out, k, m);
     let p = core.policy;
     let k = put_policy(out, k, p);
     put_pairings(out, k, core)
@@ -186,8 +182,17 @@ pub fn put_gate(out: &mut [u8], at: usize, g: Gate) -> usize
     let core = g.core;
     let k = put_front(out, at, core);
     let k = run_lines::session::put_session_or_none(out, k, g);
-    let k = lines::put_item(out, k, b" cooldown_until=", core.validation.cooldown_until);
-    let k = lines::put_item(out, k, b" next_session=", core.validation.next as u64);
+    let fields = [
+        Field::Number(key::COOLDOWN_UNTIL, core.validation.cooldown_until),
+        Field::Number(key::NEXT_SESSION, core.validation.next as u64),
+        Field::Nothing,
+        Field::Nothing,
+        Field::Nothing,
+        Field::Nothing,
+        Field::Nothing,
+        Field::Nothing,
+    ];
+    let k = lines::fields::put_fields(out, k, b"", fields);
     let w = core.probe;
     run_lines::probe::put_probe(out, k, w)
 }

@@ -1,85 +1,18 @@
-use mathlib.Core.Path.{refl, _∙_}
-use Rattle.query_lines.specs.Query.{challenge}
+-- The fields of the array are those of the definition, which antt computes.
 use borrow.Author.Needs.{needs}
+use Rattle.lines.specs.Table.{keys, keyNames}
+use Rattle.lines.specs.Fields.{putFields}
+use Rattle.query_lines.specs.Query.{challenge}
 use Rattle.query_lines.proofs.put_challenge.Statement.{statement}
 use Rattle.query_lines.proofs.put_challenge.Tie as tie
 
-put-answer-requires : tie.Need-put-answer-requires
-put-answer-requires c κs = tt
-
-is-done-requires : tie.Need-is-done-requires
-is-done-requires c κs = tt
-
-slice-aggregate-put-item : tie.Need-slice-aggregate-put-item
-slice-aggregate-put-item c = refl
-
-cast-put-item : tie.Need-cast-put-item
-cast-put-item c = search needs
-
-put-item-requires : tie.Need-put-item-requires
-put-item-requires c κs = tt
-
-slice-aggregate-put-item-2 : tie.Need-slice-aggregate-put-item-2
-slice-aggregate-put-item-2 c = refl
-
-put-item-requires-2 : tie.Need-put-item-requires-2
-put-item-requires-2 c κs = tt
-
-slice-aggregate-put-text : tie.Need-slice-aggregate-put-text
-slice-aggregate-put-text c = refl
-
-put-text-requires : tie.Need-put-text-requires
-put-text-requires c κs = tt
-
-put-digits-requires : tie.Need-put-digits-requires
-put-digits-requires c κs = tt
-
-same-length : tie.Need-same-length
-same-length c =
-    let c1 = c .before .before in
-    let c2 = c1 .before .before .before .before .before in
-    let c3 = c2 .before .before .before .before .before in
-    let c4 = c3 .before .before .before .before .before in
-    let c5 = c4 .before .before .before .before .before .before .before .before in
-    c1 .put-digits .kept .0 ∙ c2 .put-text .kept .0 ∙ c3 .put-item2 .kept .0 ∙ c4 .put-item .kept .0 ∙ c5 .put-answer .kept .0
-
-returns : tie.Need-returns
-unfolding challenge
-returns c =
-    let c1 = c .before .before in
-    let c2 = c1 .before .before .before .before .before in
-    let c3 = c2 .before .before .before .before .before in
-    let c4 = c3 .before .before .before .before .before in
-    let c5 = c4 .before .before .before .before in
-    let c6 = c5 .before in
-    let c7 = c6 .before .before .before in
-    rw (c1 .put-digits .ensures, c2 .put-text .ensures, c3 .put-item2 .ensures, c4 .put-item .ensures, c7 .put-answer .ensures, ← c6 .is-done .ensures, c5 .if1 .taken)
-
-same-length-2 : tie.Need-same-length-2
-same-length-2 c = c .before .before .before .before .put-answer .kept .0
-
-returns-2 : tie.Need-returns-2
-unfolding challenge
-returns-2 c =
-    let c1 = c .before in
-    let c2 = c1 .before .before .before in
-    rw (c2 .put-answer .ensures, ← c1 .is-done .ensures, c .if1 .left)
-
 pub put-challenge-spec : {M : Type 1} → statement M
+unfolding challenge keyNames keys putFields
 put-challenge-spec =
     tie.close
     (tie.spec
-    put-answer-requires
-    is-done-requires
-    slice-aggregate-put-item
-    cast-put-item
-    put-item-requires
-    slice-aggregate-put-item-2
-    put-item-requires-2
-    slice-aggregate-put-text
-    put-text-requires
-    put-digits-requires
-    same-length
-    returns
-    same-length-2
-    returns-2)
+    (λ c. search needs)
+    (λ c. search needs)
+    (λ c κs. tt)
+    (λ c. search needs)
+    (λ c. c .before .before .put-told .ensures))

@@ -1,45 +1,19 @@
-use mathlib.Core.Path.{refl}
 use borrow.Author.Needs.{needs}
+use Rattle.lines.specs.Table.{keys, keyNames, words, wordNames}
 use Rattle.query_lines.proofs.put_seen.Statement.{statement}
 use Rattle.query_lines.proofs.put_seen.Tie as tie
 
-enum-told : tie.Need-enum-told
-enum-told c = search needs
-
-slice-aggregate-put-text : tie.Need-slice-aggregate-put-text
-slice-aggregate-put-text c = refl
-
-put-text-requires : tie.Need-put-text-requires
-put-text-requires c κs = tt
-
-enum-known-s : tie.Need-enum-known-s
-enum-known-s c = search needs
-
-put-reply-requires : tie.Need-put-reply-requires
-put-reply-requires c κs = tt
-
-same-length : tie.Need-same-length
-same-length c = c .before .before .put-text .kept .0
-
-returns : tie.Need-returns
-returns c = rw (c .before .before .put-text .ensures, c .before .before .before .before .before .enum-told .given .1)
-
-same-length-2 : tie.Need-same-length-2
-same-length-2 c = c .before .before .put-reply .kept .0
-
-returns-2 : tie.Need-returns-2
-returns-2 c = rw (c .before .before .put-reply .ensures, c .before .before .before .before .before .s .given .1)
-
 pub put-seen-spec : {M : Type 1} → statement M
+unfolding keyNames keys wordNames words
 put-seen-spec =
     tie.close
     (tie.spec
-    enum-told
-    slice-aggregate-put-text
-    put-text-requires
-    enum-known-s
-    put-reply-requires
-    same-length
-    returns
-    same-length-2
-    returns-2)
+    (λ c. c .match .keys1)
+    (λ c. search needs)
+    (λ c κs. tt)
+    (λ c. c .match .keys2)
+    (λ c κs. tt)
+    (λ c. search needs)
+    (λ c. rw (c .before .before .before .before .before .enum-told .given .1) (c .before .before .put-field .ensures))
+    (λ c. search needs)
+    (λ c. rw (c .before .before .before .before .before .s .given .1) (c .before .before .put-reply .ensures)))

@@ -1,51 +1,18 @@
 use Rattle.query_lines.proofs.seen_in.Statement.{statement}
 use Rattle.query_lines.proofs.seen_in.Tie as tie
 
-held-by-requires : tie.Need-held-by-requires
-held-by-requires c κs = tt
-
-enum-told : tie.Need-enum-told
-enum-told c = c .match .keys1
-
-enum-told-2 : tie.Need-enum-told-2
-enum-told-2 c = c .match .keys2
-
-enum-told-3 : tie.Need-enum-told-3
-enum-told-3 c = c .match .keys3
-
-enum-known-h : tie.Need-enum-known-h
-enum-known-h c = c .match .keys4
-
-enum-told-4 : tie.Need-enum-told-4
-enum-told-4 c = c .match .keys5
-
-returns : tie.Need-returns
-returns c = rw (← c .before .before .held-by .ensures, c .enum-told .given .1)
-
-returns-2 : tie.Need-returns-2
-returns-2 c = rw (← c .before .before .held-by .ensures, c .enum-told2 .given .1)
-
-returns-3 : tie.Need-returns-3
-returns-3 c = rw (← c .before .before .held-by .ensures, c .enum-told3 .given .1)
-
-returns-4 : tie.Need-returns-4
-returns-4 c = rw (← c .before .before .before .held-by .ensures, c .before .h .given .1)
-
-returns-5 : tie.Need-returns-5
-returns-5 c = rw (← c .before .before .held-by .ensures, c .enum-told4 .given .1)
-
 pub seen-in-spec : {M : Type 1} → statement M
 seen-in-spec =
     tie.close
     (tie.spec
-    held-by-requires
-    enum-told
-    enum-told-2
-    enum-told-3
-    enum-known-h
-    enum-told-4
-    returns
-    returns-2
-    returns-3
-    returns-4
-    returns-5)
+    (λ c κs. tt)
+    (λ c. c .match .keys1)
+    (λ c. c .match .keys2)
+    (λ c. c .match .keys3)
+    (λ c. c .match .keys4)
+    (λ c. c .match .keys5)
+    (λ c. rw (← c .before .before .shown-by .ensures .1, c .enum-told .given .1))
+    (λ c. rw (← c .before .before .shown-by .ensures .1, c .enum-told2 .given .1))
+    (λ c. rw (← c .before .before .shown-by .ensures .1, c .enum-told3 .given .1))
+    (λ c. rw (← c .before .before .before .shown-by .ensures .1, c .before .h .given .1))
+    (λ c. rw (← c .before .before .shown-by .ensures .1, c .enum-told4 .given .1)))

@@ -3,60 +3,26 @@ use Rattle.signal_lines.specs.Signals.{challenge}
 use Rattle.signal_lines.proofs.put_challenge.Statement.{statement}
 use Rattle.signal_lines.proofs.put_challenge.Tie as tie
 
-slice-aggregate-put-next : tie.Need-slice-aggregate-put-next
-slice-aggregate-put-next c = refl
-
-put-next-requires : tie.Need-put-next-requires
-put-next-requires c κs = tt
-
-put-running-requires : tie.Need-put-running-requires
-put-running-requires c κs = tt
-
-same-length : tie.Need-same-length
-same-length c = c .before .before .put-running .kept .0 ∙ c .before .before .before .before .before .before .before .before .put-next .kept .0
-
-returns : tie.Need-returns
-unfolding challenge
-returns c =
-    let c1 = c .before .before in
-    let c2 = c1 .before .before .before in
-    let c3 = c2 .before .before .before in
-    let c4 = c3 .before .before .before in
-    rw (c1 .put-running .ensures, c3 .put-next .ensures, c4 .if1 .taken, c2 .if2 .taken)
-
-slice-aggregate-put-text : tie.Need-slice-aggregate-put-text
-slice-aggregate-put-text c = refl
-
-put-text-requires : tie.Need-put-text-requires
-put-text-requires c κs = tt
-
-same-length-2 : tie.Need-same-length-2
-same-length-2 c = c .before .before .put-text .kept .0 ∙ c .before .before .before .before .before .before .before .before .put-next .kept .0
-
-returns-2 : tie.Need-returns-2
-unfolding challenge
-returns-2 c =
-    let c1 = c .before .before in
-    let c2 = c1 .before .before .before in
-    let c3 = c2 .before .before .before in
-    let c4 = c3 .before .before .before in
-    rw (c1 .put-text .ensures, c3 .put-next .ensures, c4 .if1 .taken, c2 .if2 .left)
-
-returns-3 : tie.Need-returns-3
-unfolding challenge
-returns-3 c = rw (c .if1 .left)
-
 pub put-challenge-spec : {M : Type 1} → statement M
+unfolding challenge
 put-challenge-spec =
     tie.close
     (tie.spec
-    slice-aggregate-put-next
-    put-next-requires
-    put-running-requires
-    same-length
-    returns
-    slice-aggregate-put-text
-    put-text-requires
-    same-length-2
-    returns-2
-    returns-3)
+    (λ c. refl)
+    (λ c κs. tt)
+    (λ c κs. tt)
+    (λ c. c .before .before .put-running .kept .0 ∙ c .before .before .before .before .before .before .before .before .put-next .kept .0)
+    (λ c. let c1 = c .before .before in
+    let c2 = c1 .before .before .before in
+    let c3 = c2 .before .before .before in
+    let c4 = c3 .before .before .before in
+    rw (c1 .put-running .ensures, c3 .put-next .ensures, c4 .if1 .taken, c2 .if2 .taken))
+    (λ c. refl)
+    (λ c κs. tt)
+    (λ c. c .before .before .put-text .kept .0 ∙ c .before .before .before .before .before .before .before .before .put-next .kept .0)
+    (λ c. let c1 = c .before .before in
+    let c2 = c1 .before .before .before in
+    let c3 = c2 .before .before .before in
+    let c4 = c3 .before .before .before in
+    rw (c1 .put-text .ensures, c3 .put-next .ensures, c4 .if1 .taken, c2 .if2 .left))
+    (λ c. rw (c .if1 .left)))

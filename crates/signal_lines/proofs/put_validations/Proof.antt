@@ -4,66 +4,30 @@ use borrow.Author.Tests.{eq-eqb, ne-eqb}
 use Rattle.signal_lines.proofs.put_validations.Statement.{statement}
 use Rattle.signal_lines.proofs.put_validations.Tie as tie
 
-slice-aggregate-put-next : tie.Need-slice-aggregate-put-next
-slice-aggregate-put-next c = refl
-
-put-next-requires : tie.Need-put-next-requires
-put-next-requires c κs = tt
-
-slice-aggregate-put-text : tie.Need-slice-aggregate-put-text
-slice-aggregate-put-text c = refl
-
-put-text-requires : tie.Need-put-text-requires
-put-text-requires c κs = tt
-
-same-length : tie.Need-same-length
-same-length c =
-    let c1 = c .before .before in
-    let c2 = c1 .before .before .before .before .before .before .before in
-    c1 .put-text .kept .0 ∙ c2 .put-next .kept .0
-
-returns : tie.Need-returns
-unfolding validations
-returns c =
-    let c1 = c .before .before in
-    let c2 = c1 .before .before .before in
-    let c3 = c2 .before .before .before .before in
-    let c4 = c3 .before .before .before in
-    rw (c1 .put-text .ensures, c3 .put-next .ensures, c4 .if1 .taken, eq-eqb _ _ (c2 .if2 .taken))
-
-put-saved-requires : tie.Need-put-saved-requires
-put-saved-requires c κs = tt
-
-same-length-2 : tie.Need-same-length-2
-same-length-2 c =
-    let c1 = c .before .before in
-    let c2 = c1 .before .before .before .before .before .before .before in
-    c1 .put-saved .kept .0 ∙ c2 .put-next .kept .0
-
-returns-2 : tie.Need-returns-2
-unfolding validations
-returns-2 c =
-    let c1 = c .before .before in
-    let c2 = c1 .before .before .before in
-    let c3 = c2 .before .before .before .before in
-    let c4 = c3 .before .before .before in
-    rw (c1 .put-saved .ensures, c3 .put-next .ensures, c4 .if1 .taken, ne-eqb _ _ (c2 .if2 .left))
-
-returns-3 : tie.Need-returns-3
-unfolding validations
-returns-3 c = rw (c .if1 .left)
-
 pub put-validations-spec : {M : Type 1} → statement M
+unfolding validations
 put-validations-spec =
     tie.close
     (tie.spec
-    slice-aggregate-put-next
-    put-next-requires
-    slice-aggregate-put-text
-    put-text-requires
-    same-length
-    returns
-    put-saved-requires
-    same-length-2
-    returns-2
-    returns-3)
+    (λ c. refl)
+    (λ c κs. tt)
+    (λ c. refl)
+    (λ c κs. tt)
+    (λ c. let c1 = c .before .before in
+    let c2 = c1 .before .before .before .before .before .before .before in
+    c1 .put-text .kept .0 ∙ c2 .put-next .kept .0)
+    (λ c. let c1 = c .before .before in
+    let c2 = c1 .before .before .before in
+    let c3 = c2 .before .before .before .before in
+    let c4 = c3 .before .before .before in
+    rw (c1 .put-text .ensures, c3 .put-next .ensures, c4 .if1 .taken, eq-eqb _ _ (c2 .if2 .taken)))
+    (λ c κs. tt)
+    (λ c. let c1 = c .before .before in
+    let c2 = c1 .before .before .before .before .before .before .before in
+    c1 .put-saved .kept .0 ∙ c2 .put-next .kept .0)
+    (λ c. let c1 = c .before .before in
+    let c2 = c1 .before .before .before in
+    let c3 = c2 .before .before .before .before in
+    let c4 = c3 .before .before .before in
+    rw (c1 .put-saved .ensures, c3 .put-next .ensures, c4 .if1 .taken, ne-eqb _ _ (c2 .if2 .left)))
+    (λ c. rw (c .if1 .left)))

@@ -1,20 +1,21 @@
-use mathlib.Core.Path.{_∙_}
+-- The fields of the array are those of the definition, which antt computes.
+use borrow.Author.Needs.{needs}
+use Rattle.lines.specs.Table.{keys, keyNames}
+use Rattle.lines.specs.Fields.{putFields}
 use Rattle.lines.specs.Answer.{reply}
 use Rattle.lines.proofs.answer.put_reply.Statement.{statement}
 use Rattle.lines.proofs.answer.put_reply.Tie as tie
 
-put-shape-requires : tie.Need-put-shape-requires
-put-shape-requires c κs = tt
-
-put-amounts-requires : tie.Need-put-amounts-requires
-put-amounts-requires c κs = tt
-
-same-length : tie.Need-same-length
-same-length c = c .before .before .put-amounts .kept .0 ∙ c .before .before .before .before .before .before .put-shape .kept .0
-
-returns : tie.Need-returns
-unfolding reply
-returns c = rw (c .before .before .put-amounts .ensures, c .before .before .before .before .before .before .put-shape .ensures)
-
 pub put-reply-spec : {M : Type 1} → statement M
-put-reply-spec = tie.close (tie.spec put-shape-requires put-amounts-requires same-length returns)
+unfolding keyNames keys putFields reply
+put-reply-spec =
+    tie.close
+    (tie.spec
+    (λ c κs. tt)
+    (λ c κs. tt)
+    (λ c. search needs)
+    (λ c. search needs)
+    (λ c. search needs)
+    (λ c κs. tt)
+    (λ c. search needs)
+    (λ c. rw (← c .before .before .before .before .before .before .before .before .kind-word .ensures, ← c .before .before .before .before .before .before .before .status-word .ensures) (c .before .before .put-fields .ensures)))

@@ -1,4 +1,3 @@
--- The invariant: what stands at the first i places is laid down.
 use mathlib.Core.Path.{_≡_, refl, _∙_}
 use Prim.Native.Nat.{_≤_, _-_}
 use native.Mathlib.Numerals.{add-one}
@@ -15,45 +14,21 @@ Inv-loop out₀ at w k₀ i₀ out k i = (i ≤ 4) × (length out ≡ length out
 abbrev μ-loop : tie.MeasureT-loop
 μ-loop out₀ at w k₀ i₀ out k i = 4 - i
 
-loop-holds : tie.Need-loop-holds Inv-loop μ-loop
-unfolding framesTo
-loop-holds c = (omega arith, refl, refl)
-
-put-frame-at-requires : tie.Need-put-frame-at-requires Inv-loop μ-loop
-put-frame-at-requires c κs = omega arith
-
-add-i : tie.Need-add-i Inv-loop μ-loop
-add-i c = omega arith
-
-loop-less : tie.Need-loop-less Inv-loop μ-loop
-loop-less c = omega arith
-
-loop-again : tie.Need-loop-again Inv-loop μ-loop
-unfolding framesTo
-loop-again c =
-    let f = c .before .before .put-frame-at in
-    let l = c .before .before .before .before .before .loop in
-    (omega arith, f .kept .0 ∙ l .inv .1, rw (f .ensures, l .inv .2, add-one))
-
-same-length : tie.Need-same-length Inv-loop μ-loop
-same-length c = c .before .loop .inv .1
-
-returns : tie.Need-returns Inv-loop μ-loop
-returns c =
-    let l = c .before .loop in
-    let e : l .i ≡ 4 = omega arith in
-    rw (l .inv .2, e)
-
 pub put-frame-list-spec : {M : Type 1} → statement M
+unfolding framesTo
 put-frame-list-spec =
     tie.close
     (tie.spec
     Inv-loop
     μ-loop
-    loop-holds
-    put-frame-at-requires
-    add-i
-    loop-less
-    loop-again
-    same-length
-    returns)
+    (λ c. (omega arith, refl, refl))
+    (λ c κs. omega arith)
+    (λ c. omega arith)
+    (λ c. omega arith)
+    (λ c. let f = c .before .before .put-frame-at in
+    let l = c .before .before .before .before .before .loop in
+    (omega arith, f .kept .0 ∙ l .inv .1, rw (f .ensures, l .inv .2, add-one)))
+    (λ c. c .before .loop .inv .1)
+    (λ c. let l = c .before .loop in
+    let e : l .i ≡ 4 = omega arith in
+    rw (l .inv .2, e)))

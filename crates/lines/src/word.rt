@@ -1,0 +1,76 @@
+// The words that are values of fields, a row to a line. The refusal of document 01's number n stands at place n + 3.
+
+pub const WORDS: [u8; 509] = *b"ok
+yes
+no
+none
+1/UnknownMethod
+2/CarNotIdentified
+3/CoolingDown
+4/OtherPhoneSession
+5/MethodUnavailable
+6/MethodNotAvailableNow
+7/NoRandomSource
+8/NoSession
+9/NotCodeEntry
+10/WrongCode
+11/NoDevLock
+12/NotNeeded
+13/Logging
+14/BusAsleep
+15/Busy
+16/NoAttemptsLeft
+17/Invalid
+18/IdTooLong
+19/RandomSpent
+20/NotText
+21/ListFull
+22/Malformed
+23/TooLarge
+24/BadFrame
+25/BadSettings
+code
+action
+in_progress
+succeeded
+failed
+cancelled
+timed_out
+not_approved
+awaiting_car
+approved
+other_car
+not_bonded
+bonded
+validated
+";
+
+pub const NONE: usize = 3;
+
+pub const CODE: usize = 29;
+
+pub const ACTION: usize = 30;
+
+pub const IN_PROGRESS: usize = 31;
+
+pub const SUCCEEDED: usize = 32;
+
+pub const FAILED: usize = 33;
+
+pub const CANCELLED: usize = 34;
+
+pub const TIMED_OUT: usize = 35;
+
+pub const NOT_APPROVED: usize = 36;
+
+pub const AWAITING_CAR: usize = 37;
+
+pub const APPROVED: usize = 38;
+
+pub const OTHER_CAR: usize = 39;
+
+pub const NOT_BONDED: usize = 40;
+
+pub const BONDED: usize = 41;
+
+pub const VALIDATED: usize = 42;
