@@ -1,6 +1,4 @@
 // Asks the query that a line names, one arm for each. `calls` says which query it is, specs/Shown.antt how its reply is shown.
-use call_names::LongQuery;
-use call_names::PlainQuery;
 use items::Ends;
 use items::Items;
 use state::Answer;
@@ -13,37 +11,38 @@ ghost use Rattle.lines.specs.Page.{page};
 ghost use Rattle.calls.specs.Calls.{plainQuery, longQuery};
 ghost use Rattle.asks.specs.Shown.{shown};
 
-pub fn plain_query(g: Gate, name: PlainQuery, i: Items, p: Ends, room: &[u8]) -> Answer
+// The queries that give an answer and nothing else, by their place; a number past the last asks the first.
+pub fn plain_query(g: Gate, name: usize, i: Items, p: Ends, room: &[u8]) -> Answer
     ensures { λ r. ⌜ asked g (plain r) ≡ step g (ask (plainQuery name i (lentBytes p (now (room .entry))))) ⌝ }
 {
     let bus = i.numbers.bus.value;
     let at = i.numbers.clock.value;
     let phone = items::bytes::lent(room, 0, p.phone);
     match name {
-        PlainQuery::IsReadOnly => queries::is_can_read_only(g),
-        PlainQuery::ReadOnlyReason => queries::can_read_only_reason(g),
-        PlainQuery::IsPlatformConfirmed => queries::is_car_identity_confirmed(g),
-        PlainQuery::IsFingerprintConfirmed => queries::is_car_fingerprint_confirmed(g),
-        PlainQuery::HasDevLock => queries::has_can_dev_write_lock(g),
-        PlainQuery::IsDevUnlocked => queries::is_can_dev_write_unlocked(g),
-        PlainQuery::PlatformId => queries::platform_id(g),
-        PlainQuery::IsLogging => queries::is_can_logging(g),
-        PlainQuery::IsFdBus => queries::is_can_fd_bus(g, bus),
-        PlainQuery::IsBusReadOnly => queries::is_can_bus_read_only(g, bus),
-        PlainQuery::IsBusListenOnly => queries::is_can_bus_listen_only(g, bus, at),
-        PlainQuery::IsPaired => queries::is_phone_paired(g, phone),
-        PlainQuery::PairedCount => queries::paired_phone_count(g),
-        PlainQuery::BondedLimit => queries::ble_max_bonded_phones(g),
-        PlainQuery::IsValidated => queries::is_phone_validated(g, phone),
-        PlainQuery::CarHasValidated => queries::car_has_validated_phone(g),
-        PlainQuery::SessionFor => queries::session_for(g, phone, at),
+        1 => queries::can_read_only_reason(g),
+        2 => queries::is_car_identity_confirmed(g),
+        3 => queries::is_car_fingerprint_confirmed(g),
+        4 => queries::has_can_dev_write_lock(g),
+        5 => queries::is_can_dev_write_unlocked(g),
+        6 => queries::platform_id(g),
+        7 => queries::is_can_logging(g),
+        8 => queries::is_can_fd_bus(g, bus),
+        9 => queries::is_can_bus_read_only(g, bus),
+        10 => queries::is_can_bus_listen_only(g, bus, at),
+        11 => queries::is_phone_paired(g, phone),
+        12 => queries::paired_phone_count(g),
+        13 => queries::ble_max_bonded_phones(g),
+        14 => queries::is_phone_validated(g, phone),
+        15 => queries::car_has_validated_phone(g),
+        16 => queries::session_for(g, phone, at),
+        _ => queries::is_can_read_only(g),
     }
 }
 
-// Lays the answer down.
+// The queries whose answers hold more, by their place, and so: lays the answer down.
 pub fn put_long(
     g: Gate,
-    name: LongQuery,
+    name: usize,
     i: Items,
     p: Ends,
     room: &[u8],
@@ -53,29 +52,21 @@ pub fn put_long(
     ensures { λ r. ⌜ page (now (out .exit)) r ≡ shown (step g (ask (longQuery name i (lentBytes p (now (room .entry))))) .answer) (page (now (out .entry)) at) ⌝ }
 {
     match name {
-        LongQuery::Approval => {
-            query_lines::put_approval(out, at, queries::can_read_write_approval(g))
-        }
-        LongQuery::AccessState => query_lines::put_access(out, at, queries::can_access_state(g)),
-        LongQuery::ListPaired => {
-            query_lines::put_phones_listed(out, at, queries::list_paired_phones(g))
-        }
-        LongQuery::TrustLevel => {
+        1 => query_lines::put_access(out, at, queries::can_access_state(g)),
+        2 => { query_lines::put_phones_listed(out, at, queries::list_paired_phones(g)) }
+        3 => {
             let phone = items::bytes::lent(room, 0, p.phone);
             let level = queries::phone_trust_level(g, phone);
             query_lines::put_trust(out, at, level)
         }
-        LongQuery::Peer => query_lines::put_peer(out, at, queries::ble_peer(g)),
-        LongQuery::PhoneAccess => {
+        4 => query_lines::put_peer(out, at, queries::ble_peer(g)),
+        5 => {
             let access = queries::phone_access_state(g, i.numbers.clock.value);
             query_lines::put_phone_access(out, at, access)
         }
-        LongQuery::Methods => query_lines::put_methods(out, at, queries::validation_methods(g)),
-        LongQuery::Challenge => {
-            query_lines::put_challenge(out, at, queries::current_validation_challenge(g))
-        }
-        LongQuery::Encode => {
-            query_lines::put_encoded(out, at, queries::encode_phone_validations(g))
-        }
+        6 => query_lines::put_methods(out, at, queries::validation_methods(g)),
+        7 => { query_lines::put_challenge(out, at, queries::current_validation_challenge(g)) }
+        8 => { query_lines::put_encoded(out, at, queries::encode_phone_validations(g)) }
+        _ => { query_lines::put_approval(out, at, queries::can_read_write_approval(g)) }
     }
 }

@@ -2,7 +2,7 @@
 use mathlib.Core.Path.{_≡_}
 use mathlib.Core.Bool.{Bool, true, false, cond}
 use mathlib.Core.List.{List, [], _∷_, _++_}
-use Prim.Native.Nat.{ℕ, _+_, _/_, _≤_}
+use Prim.Native.Nat.{ℕ, _+_}
 use lib.Dec.{ltb}
 use lib.ListN.{length}
 use Rattle.arrays.specs.Arrays.{put}
@@ -97,12 +97,11 @@ endsOf b = record {
   owner = length (joined b);
 }
 
--- one value laid down in memory from a place on; `near` follows, for a byte is two digits of the line
+-- one value laid down in memory from a place on
 pub record LaidAt (key line before after : List ℕ) (at : ℕ) (r : LaidValue) : Type 0 where
   pub has : r .ok ≡ hasBytes key line
   pub end : r .end ≡ at + length (bytesAt key line)
   pub memory : after ≡ put before at (bytesAt key line)
-  pub near : r .end ≤ at + length line / 2
 
 -- all of them, from the start of the memory on; `bytes` follows from where they end and from the memory
 pub record LaidAll (line before after : List ℕ) (r : LaidValues) : Type 0 where

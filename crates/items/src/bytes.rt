@@ -5,9 +5,9 @@ use crate::LaidValue;
 use crate::LaidValues;
 use script::Laid;
 ghost use mathlib.Core.Path.{_≡_};
-ghost use Prim.Native.Nat.{_+_, _*_, _/_, _≤_};
+ghost use Prim.Native.Nat.{_+_, _*_, _≤_};
 ghost use lib.ListN.{length};
-ghost use Rattle.items.specs.Bytes.{lentAt, LaidAt, LaidAll};
+ghost use Rattle.items.specs.Bytes.{bytesAt, lentAt, LaidAt, LaidAll};
 
 // The bytes of lent memory from `a` to before `e`; none if it has no such part.
 pub fn lent(room: &[u8], a: usize, e: usize) -> &[u8]
@@ -24,7 +24,7 @@ pub fn lent(room: &[u8], a: usize, e: usize) -> &[u8]
 
 // Lays the bytes of the only item with this key down from `at` on.
 fn lay(line: &[u8], key: &[u8], room: &mut [u8], at: usize) -> LaidValue
-    requires { ⌜ at + length (now line) / 2 ≤ length (now room) ⌝ }
+    requires { ⌜ at + length (bytesAt (now key) (now line)) ≤ length (now room) ⌝ }
     ensures { λ r. ⌜ LaidAt (now (key .entry)) (now (line .entry)) (now (room .entry)) (now (room .exit)) at r ⌝ }
 {
     let laid = script::values::bytes_of(line, key, room, at);
@@ -34,8 +34,9 @@ fn lay(line: &[u8], key: &[u8], room: &mut [u8], at: usize) -> LaidValue
     }
 }
 
+// All byte values of a line: together they have at most half its length, since each byte is two digits of an item of its own.
 pub fn lay_all(line: &[u8], room: &mut [u8]) -> LaidValues
-    requires { ⌜ 7 * length (now line) ≤ 2 * length (now room) ⌝ }
+    requires { ⌜ length (now line) ≤ 2 * length (now room) ⌝ }
     ensures { λ r. ⌜ LaidAll (now (line .entry)) (now (room .entry)) (now (room .exit)) r ⌝ }
 {
     let a = lay(line, b"phone", room, 0);

@@ -123,9 +123,9 @@ pub struct ItemsRead {
     pub ends: Ends,
 }
 
-// Reads a line; `room` has room for seven values of half its length each.
+// Reads a line; `room` has room for half as many bytes as the line, and so for all its byte values together.
 pub fn read(line: &[u8], room: &mut [u8]) -> ItemsRead
-    requires { ⌜ 7 * length (now line) ≤ 2 * length (now room) ⌝ }
+    requires { ⌜ length (now line) ≤ 2 * length (now room) ⌝ }
     ensures { λ r. ⌜ Reads (now (line .entry)) (now (room .entry)) (now (room .exit)) r ⌝ }
 {
     let laid = bytes::lay_all(line, room);

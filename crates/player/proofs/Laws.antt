@@ -8,19 +8,19 @@ use lib.Dec.{eqb}
 use lib.ListN.{length, take, getD}
 use lib.Seq.{length-take-le}
 use Rattle.ascii.specs.Ascii.{ascii}
-use Rattle.call_names.specs.Names.{named, words}
-use Rattle.call_names.specs.declared.Name.{Name}
 use Rattle.calls.specs.Calls.{lineOf}
 use Rattle.items.specs.Bytes.{Bytes, bytesOf}
 use Rattle.items.specs.Items.{readOf}
 use Rattle.items.specs.Takes.{takes}
 use Rattle.items.specs.declared.Items.{Items}
 use Rattle.lines.specs.Page.{Page, text}
+use Rattle.replay_names.specs.Names.{rows}
 use Rattle.script.specs.Words.{before}
 use Rattle.script.proofs.Laws.{before-le}
 use Rattle.state.specs.declared.Gate.{Gate}
 use Rattle.state_lines.specs.Whole as Whole
 use Rattle.turns.specs.Turns.{Turn, ran}
+use Rattle.words.specs.Words.{placeIn}
 use Rattle.player.specs.Played.{begun, errorOf, failed, ended, playedAs, played, stated, withState, passedOver}
 
 -- the first word is as long as its end says
@@ -29,7 +29,7 @@ word-length s e h =
     let le : e ≤ length s = rw h (before-le 32 s) in
     sym (length-take-le e s le)
 
-module _ (g : Gate) (n : ℕ) (line : List ℕ) (p : Page) (name : Name) (i : Items) (e : ℕ) (word : e ≡ before 32 line) (called : name ≡ named words (take e line)) (read : i ≡ readOf line) where
+module _ (g : Gate) (n : ℕ) (line : List ℕ) (p : Page) (name : ℕ) (i : Items) (e : ℕ) (word : e ≡ before 32 line) (called : name ≡ placeIn rows (take e line)) (read : i ≡ readOf line) where
   pub played-right : (b : Bytes) → b ≡ bytesOf line → takes name i ≡ true → ended (ran (lineOf name i b) g (begun n (take e line) p)) ≡ played g n line p
   unfolding played playedAs
   played-right b lent right = rw (← word, ← called, ← read, ← lent, right)

@@ -3,23 +3,22 @@ use mathlib.Core.Path.{_≡_}
 use mathlib.Core.Bool.{Bool, true, false, cond}
 use mathlib.Core.List.{List, [], _∷_, _++_}
 use Prim.Native.Nat.{ℕ}
-use lib.Dec.{eqb}
-use lib.ListN.{take, replicate}
+use lib.Dec.{eqb, ltb}
+use lib.ListN.{length, take, replicate}
 use Rattle.ascii.specs.Ascii.{ascii}
-use Rattle.call_names.specs.Names.{named, words}
-use Rattle.call_names.specs.declared.Name.{Name}
-use Rattle.call_names.specs.declared.Name.the-variants.{New, Session, Phone, Access, Probe, Note, Plain, Long, SetCounters, State, Unknown}
 use Rattle.definition.specs.Gate.{Call, newGateCall, step}
 use Rattle.items.specs.Bytes.{bytesOf}
 use Rattle.items.specs.Items.{readOf}
 use Rattle.items.specs.Takes.{takes}
 use Rattle.lines.specs.Page.{Page, _▸_, text, item}
 use Rattle.state_lines.specs.Whole as Whole
+use Rattle.replay_names.specs.Names.{rows}
 use Rattle.script.specs.Words.{before}
 use Rattle.state.specs.Running.{noMethod}
 use Rattle.state.specs.declared.Gate.{Gate}
 use Rattle.calls.specs.Calls.{lineOf}
 use Rattle.turns.specs.Turns.{Turn, ran}
+use Rattle.words.specs.Words.{placeIn}
 
 -- ---- every line
 
@@ -27,26 +26,12 @@ use Rattle.turns.specs.Turns.{Turn, ran}
 unfoldable pub begun : ℕ → List ℕ → Page → Page
 begun n word p = p ▸ item (ascii "line=") n ▸ text (ascii " call=") ▸ text word
 
--- a call or another line has this name
-abbrev pub isKnown : Name → Bool
-isKnown New = true
-isKnown (Session c) = true
-isKnown (Phone c) = true
-isKnown (Access c) = true
-isKnown (Probe c) = true
-isKnown (Note c) = true
-isKnown (Plain q) = true
-isKnown (Long q) = true
-isKnown SetCounters = true
-isKnown State = true
-isKnown Unknown = false
-
--- why a line is no call
-unfoldable pub errorOf : Name → List ℕ
-errorOf name = cond (isKnown name) (ascii " error=bad_items") (ascii " error=unknown_call")
+-- why a line is no call: a name without a row, or items that it does not take
+unfoldable pub errorOf : ℕ → List ℕ
+errorOf name = cond (ltb name (length rows)) (ascii " error=bad_items") (ascii " error=unknown_call")
 
 -- a line that is no call changes nothing
-unfoldable pub failed : Name → Gate → ℕ → Page → Turn
+unfoldable pub failed : ℕ → Gate → ℕ → Page → Turn
 failed name g n p = record { gate = g; page = p ▸ item (ascii "line=") n ▸ text (errorOf name); called = false }
 
 -- a byte 10 behind it
@@ -56,14 +41,14 @@ ended t = record { gate = t .gate; page = text (10 ∷ []) (t .page); called = t
 abbrev pub firstWord : List ℕ → List ℕ
 firstWord line = take (before 32 line) line
 
-unfoldable pub playedAs : Name → Gate → ℕ → List ℕ → Page → Turn
+unfoldable pub playedAs : ℕ → Gate → ℕ → List ℕ → Page → Turn
 playedAs name g n line p =
     cond (takes name (readOf line))
     (ended (ran (lineOf name (readOf line) (bytesOf line)) g (begun n (firstWord line) p)))
     (ended (failed name g n p))
 
 unfoldable pub played : Gate → ℕ → List ℕ → Page → Turn
-played g n line p = playedAs (named words (firstWord line)) g n line p
+played g n line p = playedAs (placeIn rows (firstWord line)) g n line p
 
 -- ---- the state behind every call
 

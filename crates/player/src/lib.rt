@@ -1,6 +1,5 @@
 // Plays one line of a script on a gate: reads it, makes its call and lays down what it gives. That is `played` of
 // specs/Played.antt, which speaks of the calls by the gate's one definition, `step`.
-use call_names::Name;
 use items::Ends;
 use items::Items;
 use state::Gate;
@@ -14,7 +13,7 @@ ghost use Rattle.items.specs.Bytes.{lentBytes, bytesOf, joined};
 ghost use Rattle.lines.specs.Page.{page, text};
 ghost use Rattle.calls.specs.Calls.{lineOf};
 ghost use Rattle.turns.specs.Turns.{turnOf, ran};
-ghost use Rattle.player.specs.Played.{isKnown, begun, errorOf, failed, ended, played, withState, FromBadNew, passedOver, tooLong};
+ghost use Rattle.player.specs.Played.{begun, errorOf, failed, ended, played, withState, FromBadNew, passedOver, tooLong};
 
 // line=N call=WORD
 fn put_begin(out: &mut [u8], at: usize, number: u64, word: &[u8]) -> usize
@@ -25,29 +24,11 @@ fn put_begin(out: &mut [u8], at: usize, number: u64, word: &[u8]) -> usize
     lines::put_text(out, k, word)
 }
 
-fn is_known(name: Name) -> bool
-    ensures { λ r. ⌜ r ≡ isKnown name ⌝ }
-{
-    match name {
-        Name::New => true,
-        Name::Session(_) => true,
-        Name::Phone(_) => true,
-        Name::Access(_) => true,
-        Name::Probe(_) => true,
-        Name::Note(_) => true,
-        Name::Plain(_) => true,
-        Name::Long(_) => true,
-        Name::SetCounters => true,
-        Name::State => true,
-        Name::Unknown => false,
-    }
-}
-
 // Why a line is no call.
-fn put_error(out: &mut [u8], at: usize, name: Name) -> usize
+fn put_error(out: &mut [u8], at: usize, name: usize) -> usize
     ensures { λ r. ⌜ page (now (out .exit)) r ≡ text (errorOf name) (page (now (out .entry)) at) ⌝ }
 {
-    if is_known(name) {
+    if replay_names::is_name(name) {
         return lines::put_text(out, at, b" error=bad_items");
     }
     lines::put_text(out, at, b" error=unknown_call")
@@ -58,7 +39,7 @@ fn play_call(
     g: Gate,
     number: u64,
     word: &[u8],
-    name: Name,
+    name: usize,
     i: Items,
     p: Ends,
     room: &[u8],
@@ -73,7 +54,7 @@ fn play_call(
 }
 
 // A line that is no call.
-fn play_error(g: Gate, number: u64, name: Name, out: &mut [u8]) -> Played
+fn play_error(g: Gate, number: u64, name: usize, out: &mut [u8]) -> Played
     ensures { λ r. ⌜ turnOf r (now (out .exit)) ≡ ended (failed name g number (page (now (out .entry)) 0)) ⌝ }
 {
     let k = lines::put_item(out, 0, b"line=", number);
@@ -83,11 +64,11 @@ fn play_error(g: Gate, number: u64, name: Name, out: &mut [u8]) -> Played
 }
 
 fn play_line(g: Gate, number: u64, line: &[u8], room: &mut [u8], out: &mut [u8]) -> Played
-    requires { ⌜ 7 * length (now line) ≤ 2 * length (now room) ⌝ }
+    requires { ⌜ length (now line) ≤ 2 * length (now room) ⌝ }
     ensures { λ r. ⌜ (turnOf r (now (out .exit)) ≡ played g number (now (line .entry)) (page (now (out .entry)) 0)) × (now (room .exit) ≡ put (now (room .entry)) 0 (joined (bytesOf (now (line .entry))))) ⌝ }
 {
     let e = script::name_end(line);
-    let name = call_names::name_of(&line[..e]);
+    let name = replay_names::name_of(&line[..e]);
     let read = items::read(line, room);
     let i = read.items;
     let p = read.ends;
@@ -106,7 +87,7 @@ pub fn play(
     room: &mut [u8],
     out: &mut [u8],
 ) -> Played
-    requires { ⌜ 7 * length (now line) ≤ 2 * length (now room) ⌝ }
+    requires { ⌜ length (now line) ≤ 2 * length (now room) ⌝ }
     ensures { λ r. ⌜ (turnOf r (now (out .exit)) ≡ withState states number (played g number (now (line .entry)) (page (now (out .entry)) 0))) × (now (room .exit) ≡ put (now (room .entry)) 0 (joined (bytesOf (now (line .entry))))) ⌝ }
 {
     let mut r = play_line(g, number, line, room, out);

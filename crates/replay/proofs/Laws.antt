@@ -11,8 +11,6 @@ use lib.ListN.{length, take, drop, drop-of-length-le, length-append}
 use lib.Seq.{append-snoc, drop-cons, drop-drop, length-take-le}
 use Rattle.arrays.specs.Arrays.{put}
 use Rattle.arrays.proofs.Laws.{put-take, put-length}
-use Rattle.call_names.specs.Names.{named, words}
-use Rattle.call_names.specs.declared.Name.{Name}
 use Rattle.calls.specs.Calls.{Line as Said, call, counters, state, unknown, lineOf}
 use Rattle.items.specs.Bytes.{bytesOf}
 use Rattle.items.specs.Items.{readOf}
@@ -20,10 +18,12 @@ use Rattle.items.specs.Takes.{takes}
 use Rattle.lines.specs.Page.{Page, page}
 use Rattle.player.specs.Played as Played
 use Rattle.player.specs.Played.{begun, failed, firstWord, playedAs, played, stated, withState, passedOver}
+use Rattle.replay_names.specs.Names.{rows}
 use Rattle.script.specs.Words.{before}
 use Rattle.script.proofs.Laws.{found}
 use Rattle.state.specs.declared.Gate.{Gate}
 use Rattle.turns.specs.Turns.{Turn, laid, ran}
+use Rattle.words.specs.Words.{placeIn}
 use Rattle.replay.specs.Script.{keptLen, keptIn, Line, short, long, lineIn, plus, lineGives, gateAfter, Reading, ended, grown, read, readingOf, nextLine}
 use Rattle.replay.specs.declared.Replay.{Replay}
 
@@ -34,7 +34,7 @@ pub first-length : (n : ℕ) (s : List ℕ) → n ≤ length s → n ≡ length 
 first-length n s h = sym (length-take-le n s h)
 
 -- there is room for them where there is room for all
-pub first-room : (n room : ℕ) (s : List ℕ) → n ≤ length s → 7 * length s ≤ 2 * room → 7 * length (take n s) ≤ 2 * room
+pub first-room : (n room : ℕ) (s : List ℕ) → n ≤ length s → length s ≤ 2 * room → length (take n s) ≤ 2 * room
 first-room n room s h k = omega (arith, length-take-le n s h)
 
 -- ---- the gate after a line
@@ -46,7 +46,7 @@ ran-gate (counters next relocks) g p q = refl
 ran-gate state g p q = refl
 ran-gate unknown g p q = refl
 
-played-by : (t : Bool) (l : Said) (name : Name) (g : Gate) (n : ℕ) (w : List ℕ) (p q : Page)
+played-by : (t : Bool) (l : Said) (name : ℕ) (g : Gate) (n : ℕ) (w : List ℕ) (p q : Page)
     → cond t (Played.ended (ran l g (begun n w p))) (Played.ended (failed name g n p)) .gate
     ≡ cond t (Played.ended (ran l g (begun n w q))) (Played.ended (failed name g n q)) .gate
 unfolding Played.ended failed
@@ -56,7 +56,7 @@ played-by false l name g n w p q = refl
 played-gate : (g : Gate) (n : ℕ) (s : List ℕ) (p q : Page) → played g n s p .gate ≡ played g n s q .gate
 unfolding played playedAs
 played-gate g n s p q =
-    let name = named words (firstWord s) in
+    let name = placeIn rows (firstWord s) in
     played-by (takes name (readOf s)) (lineOf name (readOf s) (bytesOf s)) name g n (firstWord s) p q
 
 state-by : (t : Bool) (n : ℕ) (r : Turn) → cond t (stated n r) r .gate ≡ r .gate

@@ -1,6 +1,5 @@
 // Makes the call that a line says on a gate, and lays down what it gives: `ran` of specs/Turns.antt, which speaks of the
 // calls by the gate's one definition, `step`.
-use call_names::Name;
 use items::Ends;
 use items::Items;
 use state::Answer;
@@ -10,7 +9,7 @@ ghost use mathlib.Core.Path.{_≡_};
 ghost use Rattle.definition.specs.Gate.{given};
 ghost use Rattle.items.specs.Bytes.{lentBytes};
 ghost use Rattle.lines.specs.Page.{page};
-ghost use Rattle.calls.specs.Calls.{lineOf};
+ghost use Rattle.calls.specs.Calls.{lineOf, otherLine};
 ghost use Rattle.turns.specs.Turns.{turnOf, answerAlone, laid, calm, withCounters, ran, passed};
 
 // The gate after a line, the place after what was laid down, and whether the line was a call.
@@ -86,31 +85,52 @@ pub fn not_called(g: Gate, at: usize) -> Played
     }
 }
 
-// Runs a line whose items are right.
-pub fn run(g: Gate, name: Name, i: Items, p: Ends, room: &[u8], out: &mut [u8], at: usize) -> Played
+// The two lines that are no calls, by their place.
+fn run_other(g: Gate, name: usize, i: Items, out: &mut [u8], at: usize) -> Played
+    ensures { λ r. ⌜ turnOf r (now (out .exit)) ≡ ran (otherLine name i) g (page (now (out .entry)) at) ⌝ }
+{
+    match name {
+        0 => {
+            let n = i.numbers;
+            let o = no_signals(set_counters(g, n.next.value, n.relocks.value), Answer::Done);
+            put_outcome(o, out, at)
+        }
+        1 => {
+            let k = state_lines::put_gate(out, at, g);
+            not_called(g, k)
+        }
+        _ => not_called(g, at),
+    }
+}
+
+// Runs a line whose items are right. `name` is the number of its row; each kind of lines counts from its own first.
+pub fn run(
+    g: Gate,
+    name: usize,
+    i: Items,
+    p: Ends,
+    room: &[u8],
+    out: &mut [u8],
+    at: usize,
+) -> Played
     ensures { λ r. ⌜ turnOf r (now (out .exit)) ≡ ran (lineOf name i (lentBytes p (now (room .entry)))) g (page (now (out .entry)) at) ⌝ }
 {
-    let o = match name {
-        Name::New => calls::new_call(g, i),
-        Name::Session(c) => calls::session_call(g, c, i, p, room),
-        Name::Phone(c) => calls::phone_call(g, c, p, room),
-        Name::Access(c) => calls::access_call(g, c, i, p, room),
-        Name::Probe(c) => calls::probe_call(g, c, i, p, room),
-        Name::Note(c) => calls::note_call(g, c, i),
-        Name::Plain(q) => no_signals(g, asks::plain_query(g, q, i, p, room)),
-        Name::SetCounters => no_signals(
-            set_counters(g, i.numbers.next.value, i.numbers.relocks.value),
-            Answer::Done,
-        ),
-        Name::Long(q) => {
-            let k = asks::put_long(g, q, i, p, room, out, at);
-            return put_calm(g, out, k);
-        }
-        Name::State => {
-            let k = state_lines::put_gate(out, at, g);
-            return not_called(g, k);
-        }
-        Name::Unknown => return not_called(g, at),
-    };
-    put_outcome(o, out, at)
+    if name < 13 {
+        return put_outcome(calls::phone_call(g, name, i, p, room), out, at);
+    }
+    let can = name - 13;
+    if can < 18 {
+        return put_outcome(calls::can_call(g, can, i, p, room), out, at);
+    }
+    let plain = can - 18;
+    if plain < 17 {
+        let a = asks::plain_query(g, plain, i, p, room);
+        return put_outcome(no_signals(g, a), out, at);
+    }
+    let long = plain - 17;
+    if long < 9 {
+        let k = asks::put_long(g, long, i, p, room, out, at);
+        return put_calm(g, out, k);
+    }
+    run_other(g, long - 9, i, out, at)
 }

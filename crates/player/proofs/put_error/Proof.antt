@@ -4,8 +4,8 @@ use borrow.Author.Needs.{needs}
 use Rattle.player.proofs.put_error.Statement.{statement}
 use Rattle.player.proofs.put_error.Tie as tie
 
-is-known-requires : tie.Need-is-known-requires
-is-known-requires c κs = tt
+is-name-requires : tie.Need-is-name-requires
+is-name-requires c κs = tt
 
 slice-aggregate-put-text : tie.Need-slice-aggregate-put-text
 slice-aggregate-put-text c = search needs
@@ -18,7 +18,7 @@ same-length c = search needs
 
 returns : tie.Need-returns
 unfolding text errorOf
-returns c = rw (← c .before .before .before .before .before .before .is-known .ensures, c .before .before .before .before .before .if1 .taken, ← c .before .before .put-text .ensures)
+returns c = rw (← c .before .before .before .before .before .before .is-name .ensures, c .before .before .before .before .before .if1 .taken, ← c .before .before .put-text .ensures)
 
 slice-aggregate-put-text-2 : tie.Need-slice-aggregate-put-text-2
 slice-aggregate-put-text-2 c = search needs
@@ -31,13 +31,13 @@ same-length-2 c = search needs
 
 returns-2 : tie.Need-returns-2
 unfolding text errorOf
-returns-2 c = rw (← c .before .before .before .before .before .before .is-known .ensures, c .before .before .before .before .before .if1 .left, ← c .before .before .put-text2 .ensures)
+returns-2 c = rw (← c .before .before .before .before .before .before .is-name .ensures, c .before .before .before .before .before .if1 .left, ← c .before .before .put-text2 .ensures)
 
 pub put-error-spec : {M : Type 1} → statement M
 put-error-spec =
     tie.close
     (tie.spec
-    is-known-requires
+    is-name-requires
     slice-aggregate-put-text
     put-text-requires
     same-length

@@ -6,7 +6,7 @@ use native.Mathlib.Omega.{arith}
 use lib.ListN.{length}
 use Rattle.script.specs.Places.{itemOf}
 use Rattle.items.specs.Bytes.{hasBytes, bytesAt}
-use Rattle.items.proofs.Laws.{item-short, laid-as, lay-as, took, took-none, no-bytes, bytes-short}
+use Rattle.items.proofs.Laws.{laid-as, lay-as, took, took-none, no-bytes}
 use Rattle.items.proofs.bytes.lay.Statement.{statement}
 use Rattle.items.proofs.bytes.lay.Tie as tie
 
@@ -27,10 +27,10 @@ unfolding hasBytes bytesAt
 returns c =
     let s = c .before .before .before .before .before .before .before .before .before .before in
     let a = s .args in
-    let h = item-short (now (a .key)) (now (a .line)) in
+    let v = itemOf (now (a .key)) (now (a .line)) in
     let e = c .before .before .before .before .before .bytes-of .ensures in
-    let t = took _ _ _ (sym (laid-as (a .at) (length (now (a .room))) h (s .pre)) ∙ sym (e .0) ∙ c .before .laid .given .1) in
-    record { has = sym (t .0); end = sym (t .1); memory = e .1 ∙ lay-as (a .at) (now (a .room)) h (s .pre); near = omega (arith, bytes-short (now (a .key)) (now (a .line)), t .1) }
+    let t = took _ _ _ (sym (laid-as v (a .at) (length (now (a .room))) (s .pre)) ∙ sym (e .0) ∙ c .before .laid .given .1) in
+    record { has = sym (t .0); end = sym (t .1); memory = e .1 ∙ lay-as v (a .at) (now (a .room)) (s .pre) }
 
 same-length-2 : tie.Need-same-length-2
 same-length-2 c = search needs
@@ -41,11 +41,10 @@ returns-2 c =
     let s = c .before .before .before .before .before .before .before .before .before in
     let a = s .args in
     let v = itemOf (now (a .key)) (now (a .line)) in
-    let h = item-short (now (a .key)) (now (a .line)) in
     let e = c .before .before .before .before .bytes-of .ensures in
-    let t = took-none _ _ (sym (laid-as (a .at) (length (now (a .room))) h (s .pre)) ∙ sym (e .0) ∙ c .enum-told .given .1) in
+    let t = took-none _ _ (sym (laid-as v (a .at) (length (now (a .room))) (s .pre)) ∙ sym (e .0) ∙ c .enum-told .given .1) in
     let n = ap length (no-bytes v t) in
-    record { has = sym t; end = rw n (sym (add-zero (a .at))); memory = e .1 ∙ lay-as (a .at) (now (a .room)) h (s .pre); near = omega arith }
+    record { has = sym t; end = rw n (sym (add-zero (a .at))); memory = e .1 ∙ lay-as v (a .at) (now (a .room)) (s .pre) }
 
 pub lay-spec : {M : Type 1} → statement M
 lay-spec =

@@ -8,6 +8,7 @@ use lib.ListN.{length}
 use Rattle.ascii.specs.Ascii.{ascii}
 use Rattle.items.specs.Bytes.{hasAt, bytesAt, bytesOf, lentBytes, joined, endsOf}
 use Rattle.items.proofs.Laws.{begin, next, lent-in}
+use Rattle.items.proofs.Together.{sizes}
 use Rattle.items.proofs.bytes.lay_all.Statement.{statement}
 use Rattle.items.proofs.bytes.lay_all.Tie as tie
 
@@ -15,43 +16,43 @@ slice-aggregate-lay : tie.Need-slice-aggregate-lay
 slice-aggregate-lay c = search needs
 
 lay-requires : tie.Need-lay-requires
-lay-requires c κs = search needs
+lay-requires c κs = omega (arith, sizes (now (c .before .before .before .before .args .line)), c .before .before .before .before .pre)
 
 slice-aggregate-lay-2 : tie.Need-slice-aggregate-lay-2
 slice-aggregate-lay-2 c = search needs
 
 lay-requires-2 : tie.Need-lay-requires-2
-lay-requires-2 c κs = omega (arith, c .before .before .before .before .lay .ensures .near, c .before .before .before .before .lay .kept .1 .1 .0, c .before .before .before .before .before .before .before .before .before .pre)
+lay-requires-2 c κs = omega (arith, sizes (now (c .before .before .before .before .before .before .before .before .before .args .line)), c .before .before .before .before .lay .ensures .end, c .before .before .before .before .lay .kept .1 .1 .0, c .before .before .before .before .before .before .before .before .before .pre)
 
 slice-aggregate-lay-3 : tie.Need-slice-aggregate-lay-3
 slice-aggregate-lay-3 c = search needs
 
 lay-requires-3 : tie.Need-lay-requires-3
-lay-requires-3 c κs = omega (arith, c .before .before .before .before .lay2 .ensures .near, c .before .before .before .before .before .before .before .before .before .lay .ensures .near, c .before .before .before .before .lay2 .kept .1 .1 .0, c .before .before .before .before .before .before .before .before .before .lay .kept .1 .1 .0, c .before .before .before .before .before .before .before .before .before .before .before .before .before .before .pre)
+lay-requires-3 c κs = omega (arith, sizes (now (c .before .before .before .before .before .before .before .before .before .before .before .before .before .before .args .line)), c .before .before .before .before .lay2 .ensures .end, c .before .before .before .before .before .before .before .before .before .lay .ensures .end, c .before .before .before .before .lay2 .kept .1 .1 .0, c .before .before .before .before .before .before .before .before .before .lay .kept .1 .1 .0, c .before .before .before .before .before .before .before .before .before .before .before .before .before .before .pre)
 
 slice-aggregate-lay-4 : tie.Need-slice-aggregate-lay-4
 slice-aggregate-lay-4 c = search needs
 
 lay-requires-4 : tie.Need-lay-requires-4
-lay-requires-4 c κs = omega (arith, c .before .before .before .before .lay3 .ensures .near, c .before .before .before .before .before .before .before .before .before .lay2 .ensures .near, c .before .before .before .before .before .before .before .before .before .before .before .before .before .before .lay .ensures .near, c .before .before .before .before .lay3 .kept .1 .1 .0, c .before .before .before .before .before .before .before .before .before .lay2 .kept .1 .1 .0, c .before .before .before .before .before .before .before .before .before .before .before .before .before .before .lay .kept .1 .1 .0, c .before .before .before .before .before .before .before .before .before .before .before .before .before .before .before .before .before .before .before .pre)
+lay-requires-4 c κs = omega (arith, sizes (now (c .before .before .before .before .before .before .before .before .before .before .before .before .before .before .before .before .before .before .before .args .line)), c .before .before .before .before .lay3 .ensures .end, c .before .before .before .before .before .before .before .before .before .lay2 .ensures .end, c .before .before .before .before .before .before .before .before .before .before .before .before .before .before .lay .ensures .end, c .before .before .before .before .lay3 .kept .1 .1 .0, c .before .before .before .before .before .before .before .before .before .lay2 .kept .1 .1 .0, c .before .before .before .before .before .before .before .before .before .before .before .before .before .before .lay .kept .1 .1 .0, c .before .before .before .before .before .before .before .before .before .before .before .before .before .before .before .before .before .before .before .pre)
 
 slice-aggregate-lay-5 : tie.Need-slice-aggregate-lay-5
 slice-aggregate-lay-5 c = search needs
 
 lay-requires-5 : tie.Need-lay-requires-5
-lay-requires-5 c κs = omega (arith, c .before .before .before .before .lay4 .ensures .near, c .before .before .before .before .before .before .before .before .before .lay3 .ensures .near, c .before .before .before .before .before .before .before .before .before .before .before .before .before .before .lay2 .ensures .near, c .before .before .before .before .before .before .before .before .before .before .before .before .before .before .before .before .before .before .before .lay .ensures .near, c .before .before .before .before .lay4 .kept .1 .1 .0, c .before .before .before .before .before .before .before .before .before .lay3 .kept .1 .1 .0, c .before .before .before .before .before .before .before .before .before .before .before .before .before .before .lay2 .kept .1 .1 .0, c .before .before .before .before .before .before .before .before .before .before .before .before .before .before .before .before .before .before .before .lay .kept .1 .1 .0, c .before .before .before .before .before .before .before .before .before .before .before .before .before .before .before .before .before .before .before .before .before .before .before .before .pre)
+lay-requires-5 c κs = omega (arith, sizes (now (c .before .before .before .before .before .before .before .before .before .before .before .before .before .before .before .before .before .before .before .before .before .before .before .before .args .line)), c .before .before .before .before .lay4 .ensures .end, c .before .before .before .before .before .before .before .before .before .lay3 .ensures .end, c .before .before .before .before .before .before .before .before .before .before .before .before .before .before .lay2 .ensures .end, c .before .before .before .before .before .before .before .before .before .before .before .before .before .before .before .before .before .before .before .lay .ensures .end, c .before .before .before .before .lay4 .kept .1 .1 .0, c .before .before .before .before .before .before .before .before .before .lay3 .kept .1 .1 .0, c .before .before .before .before .before .before .before .before .before .before .before .before .before .before .lay2 .kept .1 .1 .0, c .before .before .before .before .before .before .before .before .before .before .before .before .before .before .before .before .before .before .before .lay .kept .1 .1 .0, c .before .before .before .before .before .before .before .before .before .before .before .before .before .before .before .before .before .before .before .before .before .before .before .before .pre)
 
 slice-aggregate-lay-6 : tie.Need-slice-aggregate-lay-6
 slice-aggregate-lay-6 c = search needs
 
 lay-requires-6 : tie.Need-lay-requires-6
-lay-requires-6 c κs = omega (arith, c .before .before .before .before .lay5 .ensures .near, c .before .before .before .before .before .before .before .before .before .lay4 .ensures .near, c .before .before .before .before .before .before .before .before .before .before .before .before .before .before .lay3 .ensures .near, c .before .before .before .before .before .before .before .before .before .before .before .before .before .before .before .before .before .before .before .lay2 .ensures .near, c .before .before .before .before .before .before .before .before .before .before .before .before .before .before .before .before .before .before .before .before .before .before .before .before .lay .ensures .near, c .before .before .before .before .lay5 .kept .1 .1 .0, c .before .before .before .before .before .before .before .before .before .lay4 .kept .1 .1 .0, c .before .before .before .before .before .before .before .before .before .before .before .before .before .before .lay3 .kept .1 .1 .0, c .before .before .before .before .before .before .before .before .before .before .before .before .before .before .before .before .before .before .before .lay2 .kept .1 .1 .0, c .before .before .before .before .before .before .before .before .before .before .before .before .before .before .before .before .before .before .before .before .before .before .before .before .lay .kept .1 .1 .0, c .before .before .before .before .before .before .before .before .before .before .before .before .before .before .before .before .before .before .before .before .before .before .before .before .before .before .before .before .before .pre)
+lay-requires-6 c κs = omega (arith, sizes (now (c .before .before .before .before .before .before .before .before .before .before .before .before .before .before .before .before .before .before .before .before .before .before .before .before .before .before .before .before .before .args .line)), c .before .before .before .before .lay5 .ensures .end, c .before .before .before .before .before .before .before .before .before .lay4 .ensures .end, c .before .before .before .before .before .before .before .before .before .before .before .before .before .before .lay3 .ensures .end, c .before .before .before .before .before .before .before .before .before .before .before .before .before .before .before .before .before .before .before .lay2 .ensures .end, c .before .before .before .before .before .before .before .before .before .before .before .before .before .before .before .before .before .before .before .before .before .before .before .before .lay .ensures .end, c .before .before .before .before .lay5 .kept .1 .1 .0, c .before .before .before .before .before .before .before .before .before .lay4 .kept .1 .1 .0, c .before .before .before .before .before .before .before .before .before .before .before .before .before .before .lay3 .kept .1 .1 .0, c .before .before .before .before .before .before .before .before .before .before .before .before .before .before .before .before .before .before .before .lay2 .kept .1 .1 .0, c .before .before .before .before .before .before .before .before .before .before .before .before .before .before .before .before .before .before .before .before .before .before .before .before .lay .kept .1 .1 .0, c .before .before .before .before .before .before .before .before .before .before .before .before .before .before .before .before .before .before .before .before .before .before .before .before .before .before .before .before .before .pre)
 
 slice-aggregate-lay-7 : tie.Need-slice-aggregate-lay-7
 slice-aggregate-lay-7 c = search needs
 
 lay-requires-7 : tie.Need-lay-requires-7
-lay-requires-7 c κs = omega (arith, c .before .before .before .before .lay6 .ensures .near, c .before .before .before .before .before .before .before .before .before .lay5 .ensures .near, c .before .before .before .before .before .before .before .before .before .before .before .before .before .before .lay4 .ensures .near, c .before .before .before .before .before .before .before .before .before .before .before .before .before .before .before .before .before .before .before .lay3 .ensures .near, c .before .before .before .before .before .before .before .before .before .before .before .before .before .before .before .before .before .before .before .before .before .before .before .before .lay2 .ensures .near, c .before .before .before .before .before .before .before .before .before .before .before .before .before .before .before .before .before .before .before .before .before .before .before .before .before .before .before .before .before .lay .ensures .near, c .before .before .before .before .lay6 .kept .1 .1 .0, c .before .before .before .before .before .before .before .before .before .lay5 .kept .1 .1 .0, c .before .before .before .before .before .before .before .before .before .before .before .before .before .before .lay4 .kept .1 .1 .0, c .before .before .before .before .before .before .before .before .before .before .before .before .before .before .before .before .before .before .before .lay3 .kept .1 .1 .0, c .before .before .before .before .before .before .before .before .before .before .before .before .before .before .before .before .before .before .before .before .before .before .before .before .lay2 .kept .1 .1 .0, c .before .before .before .before .before .before .before .before .before .before .before .before .before .before .before .before .before .before .before .before .before .before .before .before .before .before .before .before .before .lay .kept .1 .1 .0, c .before .before .before .before .before .before .before .before .before .before .before .before .before .before .before .before .before .before .before .before .before .before .before .before .before .before .before .before .before .before .before .before .before .before .pre)
+lay-requires-7 c κs = omega (arith, sizes (now (c .before .before .before .before .before .before .before .before .before .before .before .before .before .before .before .before .before .before .before .before .before .before .before .before .before .before .before .before .before .before .before .before .before .before .args .line)), c .before .before .before .before .lay6 .ensures .end, c .before .before .before .before .before .before .before .before .before .lay5 .ensures .end, c .before .before .before .before .before .before .before .before .before .before .before .before .before .before .lay4 .ensures .end, c .before .before .before .before .before .before .before .before .before .before .before .before .before .before .before .before .before .before .before .lay3 .ensures .end, c .before .before .before .before .before .before .before .before .before .before .before .before .before .before .before .before .before .before .before .before .before .before .before .before .lay2 .ensures .end, c .before .before .before .before .before .before .before .before .before .before .before .before .before .before .before .before .before .before .before .before .before .before .before .before .before .before .before .before .before .lay .ensures .end, c .before .before .before .before .lay6 .kept .1 .1 .0, c .before .before .before .before .before .before .before .before .before .lay5 .kept .1 .1 .0, c .before .before .before .before .before .before .before .before .before .before .before .before .before .before .lay4 .kept .1 .1 .0, c .before .before .before .before .before .before .before .before .before .before .before .before .before .before .before .before .before .before .before .lay3 .kept .1 .1 .0, c .before .before .before .before .before .before .before .before .before .before .before .before .before .before .before .before .before .before .before .before .before .before .before .before .lay2 .kept .1 .1 .0, c .before .before .before .before .before .before .before .before .before .before .before .before .before .before .before .before .before .before .before .before .before .before .before .before .before .before .before .before .before .lay .kept .1 .1 .0, c .before .before .before .before .before .before .before .before .before .before .before .before .before .before .before .before .before .before .before .before .before .before .before .before .before .before .before .before .before .before .before .before .before .before .pre)
 
 same-length : tie.Need-same-length
 same-length c = c .before .before .lay7 .kept .1 .1 .0 ∙ c .before .before .before .before .before .before .before .lay6 .kept .1 .1 .0 ∙ c .before .before .before .before .before .before .before .before .before .before .before .before .lay5 .kept .1 .1 .0 ∙ c .before .before .before .before .before .before .before .before .before .before .before .before .before .before .before .before .before .lay4 .kept .1 .1 .0 ∙ c .before .before .before .before .before .before .before .before .before .before .before .before .before .before .before .before .before .before .before .before .before .before .lay3 .kept .1 .1 .0 ∙ c .before .before .before .before .before .before .before .before .before .before .before .before .before .before .before .before .before .before .before .before .before .before .before .before .before .before .before .lay2 .kept .1 .1 .0 ∙ c .before .before .before .before .before .before .before .before .before .before .before .before .before .before .before .before .before .before .before .before .before .before .before .before .before .before .before .before .before .before .before .before .lay .kept .1 .1 .0
@@ -83,7 +84,7 @@ returns c =
     let b5 = next x5 (b4) (l5 .end) (l5 .memory) in
     let b6 = next x6 (b5) (l6 .end) (l6 .memory) in
     let b7 = next x7 (b6) (l7 .end) (l7 .memory) in
-    let fits : length (x1 ++ x2 ++ x3 ++ x4 ++ x5 ++ x6 ++ x7) ≤ length d = rw (← b7 .end) (omega (arith, s .pre, l1 .near, l2 .near, l3 .near, l4 .near, l5 .near, l6 .near, l7 .near)) in
+    let fits : length (x1 ++ x2 ++ x3 ++ x4 ++ x5 ++ x6 ++ x7) ≤ length d = rw (← b7 .end) (omega (arith, sizes line, s .pre, l1 .end, l2 .end, l3 .end, l4 .end, l5 .end, l6 .end, l7 .end)) in
     record {
       has = λ j. record { phone = l1 .has j; method = l2 .has j; random = l3 .has j; code = l4 .has j; stored = l5 .has j; fingerprint = l6 .has j; owner = l7 .has j };
       ends = λ j. record { phone = b1 .end j; method = b2 .end j; random = b3 .end j; code = b4 .end j; stored = b5 .end j; fingerprint = b6 .end j; owner = b7 .end j };
