@@ -3,7 +3,7 @@ use mathlib.Core.Bool.{Bool, false, cond}
 use mathlib.Core.List.{List}
 use Prim.Native.Nat.{ℕ, zero, suc}
 use lib.Dec.{eqb, ltb}
-use lib.ListN.{getD}
+use lib.ListN.{length, getD}
 use Rattle.ascii.specs.Ascii.{ascii}
 use Rattle.phones.specs.Phones.{idBytes, phonesOf}
 use Rattle.phones.specs.declared.ShortId.{ShortId}
@@ -69,7 +69,7 @@ policy s p = p ▸ identity (s .identity) ▸ access (s .access) ▸ buses (s .b
 -- the car and the phones validated in it; none exactly if there are no phones
 unfoldable pub validated : Validations → Page → Page
 validated v p =
-    cond (eqb (v .phones .count) 0)
+    cond (eqb (length (phonesOf (v .phones))) 0)
     (text (ascii " validated_car=none validated=") p)
     (p ▸ text (ascii " validated_car=") ▸ bytes (v .car) ▸ text (ascii " validated=") ▸ idsFrom 0 (phonesOf (v .phones)))
 

@@ -136,7 +136,7 @@ fn put_validated(out: &mut [u8], at: usize, v: Validations) -> usize
     ensures { λ r. ⌜ page (now (out .exit)) r ≡ validated v (page (now (out .entry)) at) ⌝ }
 {
     let list = v.phones;
-    if list.count == 0 {
+    if phones::count(list) == 0 {
         return lines::put_text(out, at, b" validated_car=none validated=");
     }
     let k = lines::put_text(out, at, b" validated_car=");

@@ -5,6 +5,9 @@ use borrow.Author.Tests.{eq-eqb, ne-eqb}
 use Rattle.state_lines.proofs.put_validated.Statement.{statement}
 use Rattle.state_lines.proofs.put_validated.Tie as tie
 
+count-requires : tie.Need-count-requires
+count-requires c κs = tt
+
 slice-aggregate-put-text : tie.Need-slice-aggregate-put-text
 slice-aggregate-put-text c = refl
 
@@ -16,7 +19,7 @@ same-length c = c .before .before .put-text .kept .0
 
 returns : tie.Need-returns
 unfolding validated
-returns c = rw (c .before .before .put-text .ensures, eq-eqb _ _ (c .before .before .before .before .before .if1 .taken))
+returns c = rw (c .before .before .put-text .ensures, ← c .before .before .before .before .before .before .count .ensures, eq-eqb _ _ (c .before .before .before .before .before .if1 .taken))
 
 slice-aggregate-put-text-2 : tie.Need-slice-aggregate-put-text-2
 slice-aggregate-put-text-2 c = refl
@@ -55,12 +58,13 @@ returns-2 c =
     let c3 = c2 .before .before .before .before .before in
     let c4 = c3 .before .before .before .before .before .before in
     let c5 = c4 .before .before .before in
-    rw (c1 .put-phones .ensures, c2 .put-text3 .ensures, c3 .put-bytes .ensures, c4 .put-text2 .ensures, ne-eqb _ _ (c5 .if1 .left))
+    rw (c1 .put-phones .ensures, c2 .put-text3 .ensures, c3 .put-bytes .ensures, c4 .put-text2 .ensures, ← c5 .before .count .ensures, ne-eqb _ _ (c5 .if1 .left))
 
 pub put-validated-spec : {M : Type 1} → statement M
 put-validated-spec =
     tie.close
     (tie.spec
+    count-requires
     slice-aggregate-put-text
     put-text-requires
     same-length
