@@ -8,7 +8,8 @@ use Rattle.frames.specs.Frames.{isEntry}
 use Rattle.draw.specs.Draw.{digits, drawLimit, drawn, firstBelow, group}
 use Rattle.text.specs.Utf8.{begins3, begins4, decode, decode2, decode3, decode4, encode, encodeAll, scalar, scalars, utf8-2, utf8-3, utf8-4, within}
 use Rattle.text.specs.Text.{isText, right, trim, trimFront, trimmed, white}
-use Rattle.saved_record.specs.SavedRecord.{anyLong, before, decoded, decodedBody, encoded, field, fields, judged, overLimits, readCounted, readPhones, refusal, restored}
+use Rattle.phone_fields.specs.PhoneFields.{anyLong, before, field, fields, overLimits, readFields}
+use Rattle.saved_record.specs.SavedRecord.{decoded, decodedBody, encoded, judged, nothingAfter, readCounted, readPhones, refusal, restored}
 use Rattle.decimal.specs.Decimal.{digitsUpTo, decimalOf}
 use Rattle.hex.specs.Hex.{digit, hexOf}
 use Rattle.listing.specs.Listing.{line, phoneLines, acceptedLines, refusedLines, linesOf, lines}
@@ -44,7 +45,7 @@ unfolding firstBelow digits drawn within scalar scalars encode encodeAll utf8-2 
 openLeaves2 = tt
 
 unfoldable openLeaves3 : Unit {0}
-unfolding decode3 decode4 white trimFront trim isText trimmed right field fields encoded before readPhones readCounted anyLong
+unfolding decode3 decode4 white trimFront trim isText trimmed right field fields encoded before readFields nothingAfter readPhones readCounted anyLong
 openLeaves3 = tt
 
 unfoldable openLeaves4 : Unit {0}

@@ -19,7 +19,8 @@ use Rattle.phones.specs.Phones.{phonesOf}
 use Rattle.phones.proofs.Laws.{phones-of-list}
 use Rattle.saved_record.specs.declared.Decoded.{Decoded}
 use Rattle.saved_record.specs.declared.RecordVerdict.the-variants.{Restored, Malformed, TooLarge}
-use Rattle.saved_record.specs.SavedRecord.{Reading, malformed, tooLarge, ok, field, fields, encoded, anyLong, overLimits, decoded, refusal, restored}
+use Rattle.phone_fields.specs.PhoneFields.{field, fields, anyLong, overLimits}
+use Rattle.saved_record.specs.SavedRecord.{Reading, malformed, tooLarge, ok, encoded, decoded, refusal, restored}
 use Rattle.saved_record.proofs.RoundTrip.{accepted-well-formed}
 use Rattle.listing.specs.declared.Listing.{Listing}
 use Rattle.listing.specs.Listing.{line, phoneLines, acceptedLines, refusedLines, linesOf, lines, listed, listingOf}

@@ -12,8 +12,10 @@ use Rattle.arrays.proofs.Laws.{padded-take}
 use Rattle.phones.specs.Phones.{contains, someOf, phonesOf}
 use Rattle.phones.proofs.Laws.{phones-of-list}
 use Rattle.phones.proofs.Range.{Short, range-count, range-short}
-use Rattle.saved_record.specs.SavedRecord.{Reading, malformed, tooLarge, ok, anyLong, overLimits, encoded, recordOf, decoded, refusal, restored}
-use Rattle.saved_record.proofs.RoundTrip.{anyEmpty, accepted-well-formed, reads-back, written-back, at-most-1090}
+use Rattle.phone_fields.specs.PhoneFields.{anyLong, overLimits}
+use Rattle.phone_fields.proofs.Laws.{anyEmpty}
+use Rattle.saved_record.specs.SavedRecord.{Reading, malformed, tooLarge, ok, encoded, recordOf, decoded, refusal, restored}
+use Rattle.saved_record.proofs.RoundTrip.{accepted-well-formed, reads-back, written-back, at-most-1090}
 use Rattle.state.specs.declared.Gate.{Gate}
 use Rattle.state.specs.declared.Answer.the-variants.{Done, BadSettings}
 use Rattle.state.specs.Parts.{withValidations}

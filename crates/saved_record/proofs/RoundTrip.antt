@@ -1,20 +1,18 @@
 -- The record written and read: what is written is read back, what is read is what was written, and what is refused.
 use mathlib.Core.Path.{_≡_, refl, ap, sym, _∙_}
 use mathlib.Core.Bool.{Bool, true, false, cond}
-use mathlib.Core.List.{List, [], _∷_, _++_}
+use mathlib.Core.List.{List, [], _∷_, append-nil}
 use mathlib.Core.Option.{none, some}
-use Prim.Native.Nat.{ℕ, zero, suc, _-_, _*_, _≤_, _<_}
+use Prim.Native.Nat.{ℕ, zero, suc, _-_, _≤_, _<_}
 use native.Mathlib.Omega.{arith}
-use borrow.Author.Tests.{eqb-true, le-ltb, ltb-false}
+use borrow.Author.Tests.{eqb-true, ltb-false}
 use lib.Dec.{eqb, ltb}
 use lib.ListN.{length, take, drop, length-append, take-append-drop, length-drop}
-use lib.Seq.{take-at, drop-at, length-take-le, drop-append-seam, take-append-seam}
-use Rattle.saved_record.specs.SavedRecord.{malformed, tooLarge, ok, field, fields, encoded, before, readPhones, readCounted, anyLong, overLimits, judged, decodedBody, decoded}
-
--- some id has no bytes
-unfoldable pub anyEmpty : List (List ℕ) → Bool
-anyEmpty [] = false
-anyEmpty (p ∷ ps) = cond (eqb (length p) 0) true (anyEmpty ps)
+use lib.Seq.{take-at, drop-at, length-take-le}
+use Rattle.phone_fields.specs.PhoneFields.{fields, notWhole, whole, anyLong, overLimits}
+use Rattle.phone_fields.proofs.Laws.{anyEmpty, read-fields, fields-read, fields-length, none-long-short}
+use Rattle.phone_fields.proofs.Laws as Laws
+use Rattle.saved_record.specs.SavedRecord.{malformed, tooLarge, ok, encoded, nothingAfter, readPhones, readCounted, judged, decodedBody, decoded}
 
 -- r is the record of this car and these phones, of which there are some, and none is empty
 pub record WellFormed (r car : List ℕ) (ps : List (List ℕ)) : Type 0 where
@@ -25,55 +23,28 @@ pub record WellFormed (r car : List ℕ) (ps : List (List ℕ)) : Type 0 where
 
 -- ---- the phones
 
-read-first : (a b : Bool) (p : List ℕ) (ps : List (List ℕ))
-    → cond a none (before p (cond b none (some ps))) ≡ cond (cond a true b) none (some (p ∷ ps))
-unfolding before
-read-first true b p ps = refl
-read-first false true p ps = refl
-read-first false false p ps = refl
-
 -- the fields of some phones are read as those phones, unless one is empty
-pub read-fields : (ps : List (List ℕ)) → readPhones (length ps) (fields ps) ≡ cond (anyEmpty ps) none (some ps)
-unfolding field fields readPhones anyEmpty
-read-fields [] = refl
-read-fields (p ∷ ps) =
-    let e : ltb (length (p ++ fields ps)) (length p) ≡ false = let l = length-append p (fields ps) in le-ltb (length (p ++ fields ps)) (length p) (omega arith) in
-    rw (e, take-append-seam p (fields ps), drop-append-seam p (fields ps), read-fields ps) (read-first (eqb (length p) 0) (anyEmpty ps) p ps)
+read-phones : (ps : List (List ℕ)) → readPhones (length ps) (fields ps) ≡ cond (anyEmpty ps) none (some ps)
+unfolding nothingAfter readPhones
+read-phones ps = rw (← append-nil (fields ps), read-fields ps []) (go (anyEmpty ps))
+  where
+    go : (b : Bool) → nothingAfter (cond b notWhole (whole ps [])) ≡ cond b none (some ps)
+    go true = refl
+    go false = refl
 
 -- what some phones are read from is their fields
-pub data ReadPhones (left : ℕ) (s : List ℕ) : Type 0 where
+data ReadPhones (left : ℕ) (s : List ℕ) : Type 0 where
   refused : readPhones left s ≡ none → ReadPhones left s
   are : (ps : List (List ℕ)) → readPhones left s ≡ some ps → fields ps ≡ s → length ps ≡ left → anyEmpty ps ≡ false → ReadPhones left s
 
-read-on : (left n : ℕ) (rest : List ℕ) (a b : Bool) → eqb n 0 ≡ a → ltb (length rest) n ≡ b → ReadPhones left (drop n rest) → ReadPhones (suc left) (n ∷ rest)
-unfolding field fields readPhones before anyEmpty
-read-on left n rest true b ea eb h = refused (rw ea)
-read-on left n rest false true ea eb h = refused (rw (ea, eb))
-read-on left n rest false false ea eb (refused e) = refused (rw (ea, eb, e))
-read-on left n rest false false ea eb (are ps e w m f) =
-    let l : length (take n rest) ≡ n = length-take-le n rest (ltb-false _ _ eb) in
-    are (take n rest ∷ ps) (rw (ea, eb, e)) (rw (l, w, take-append-drop n rest)) (ap suc m) (rw (l, ea, f))
-
-pub read-phones : (left : ℕ) (s : List ℕ) → ReadPhones left s
-unfolding field fields readPhones anyEmpty
-read-phones zero [] = are [] refl refl refl refl
-read-phones zero (x ∷ rest) = refused refl
-read-phones (suc left) [] = refused refl
-read-phones (suc left) (n ∷ rest) = read-on left n rest (eqb n 0) (ltb (length rest) n) refl refl (read-phones left (drop n rest))
-
-fields-length : (ps : List (List ℕ)) → anyLong ps ≡ false → length (fields ps) ≤ 33 * length ps
-unfolding field fields anyLong
-fields-length [] e = omega arith
-fields-length (p ∷ ps) e = go (ltb 32 (length p)) refl e (fields-length ps)
+phones-read : (left : ℕ) (s : List ℕ) → ReadPhones left s
+unfolding nothingAfter readPhones
+phones-read left s = go (fields-read left s)
   where
-    go : (b : Bool) → ltb 32 (length p) ≡ b → cond b true (anyLong ps) ≡ false → (anyLong ps ≡ false → length (fields ps) ≤ 33 * length ps)
-        → length (fields (p ∷ ps)) ≤ 33 * length (p ∷ ps)
-    go true l q h = let z : _≡_ {A = ℕ} 0 1 = cc in absurd (omega arith)
-    go false l q h =
-        let i = h q in
-        let s = ltb-false 32 (length p) l in
-        let a = length-append p (fields ps) in
-        omega arith
+    go : Laws.ReadFields left s → ReadPhones left s
+    go (Laws.refused e) = refused (rw e)
+    go (Laws.are ps [] e w m f) = are ps (rw e) (sym (append-nil (fields ps)) ∙ w) m f
+    go (Laws.are ps (x ∷ rest) e w m f) = refused (rw e)
 
 -- ---- the record
 
@@ -100,7 +71,7 @@ unfolding readCounted judged decodedBody decoded
 read-version v rest false s ev es = refused (rw ev)
 read-version v rest true [] ev es = refused (rw (ev, es))
 read-version v rest true (zero ∷ tail) ev es = refused (rw (ev, es))
-read-version v rest true (suc n ∷ tail) ev es = read-body v rest n tail ev es (read-phones (suc n) tail)
+read-version v rest true (suc n ∷ tail) ev es = read-body v rest n tail ev es (phones-read (suc n) tail)
 
 read-record : (r : List ℕ) → ReadRecord r
 unfolding decoded
@@ -111,7 +82,7 @@ read-written : (car : List ℕ) (p : List ℕ) (ps : List (List ℕ)) → length
     → decoded (encoded car (p ∷ ps)) ≡ judged car (cond (anyEmpty (p ∷ ps)) none (some (p ∷ ps)))
 unfolding encoded readCounted decodedBody decoded
 read-written car p ps h =
-    rw (take-at car (length (p ∷ ps) ∷ fields (p ∷ ps)) 32 h, drop-at car (length (p ∷ ps) ∷ fields (p ∷ ps)) 32 h, read-fields (p ∷ ps))
+    rw (take-at car (length (p ∷ ps) ∷ fields (p ∷ ps)) 32 h, drop-at car (length (p ∷ ps) ∷ fields (p ∷ ps)) 32 h, read-phones (p ∷ ps))
 
 -- ---- the theorems
 
@@ -183,7 +154,7 @@ at-most-1090 car (p ∷ ps) h e = go (ltb 32 (length (p ∷ ps))) refl e
     go : (b : Bool) → ltb 32 (length (p ∷ ps)) ≡ b → cond b true (anyLong (p ∷ ps)) ≡ false → length (encoded car (p ∷ ps)) ≤ 1090
     go true l q = let z : _≡_ {A = ℕ} 0 1 = cc in absurd (omega arith)
     go false l q =
-        let i = fields-length (p ∷ ps) q in
+        let i = fields-length (p ∷ ps) (none-long-short (p ∷ ps) q) in
         let s = ltb-false 32 (length (p ∷ ps)) l in
         let a = length-append car (length (p ∷ ps) ∷ fields (p ∷ ps)) in
         omega arith

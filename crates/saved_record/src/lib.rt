@@ -1,13 +1,9 @@
 // The saved record of the validated phones: written, and read back.
+use phone_fields::FieldsVerdict;
 use phones::PhoneList;
-use phones::ShortId;
 ghost use mathlib.Core.Path.{_≡_};
-ghost use Prim.Native.Nat.{_+_, _≤_, min};
-ghost use lib.ListN.{length};
-ghost use Rattle.arrays.specs.Arrays.{put};
-ghost use Rattle.phones.specs.Phones.{idBytes, phonesOf};
-ghost use Rattle.saved_record.specs.SavedRecord.{field, encoded, recordOf, readPhones, judged, decoded, refusal, restored};
-ghost use Rattle.saved_record.specs.Steps.{firstLength, onlyChecked};
+ghost use Rattle.phones.specs.Phones.{phonesOf};
+ghost use Rattle.saved_record.specs.SavedRecord.{encoded, recordOf, readPhones, judged, decoded, refusal, restored};
 
 // A record with its length; zeros past it.
 pub struct SavedRecord {
@@ -28,25 +24,6 @@ pub struct Decoded {
     pub phones: PhoneList,
 }
 
-// A length, at most 32.
-fn clamp(n: usize) -> usize
-    ensures { λ r. ⌜ r ≡ min n 32 ⌝ }
-{
-    if n < 32 { n } else { 32 }
-}
-
-// Writes a phone at `at`, a length byte and its bytes, and tells the place after it.
-fn put_phone(out: &mut [u8], at: usize, p: ShortId) -> usize
-    requires { ⌜ at + 33 ≤ length (now out) ⌝ }
-    ensures { λ r. ⌜ (r ≡ at + length (field (idBytes p))) × (now (out .exit) ≡ put (now (out .entry)) at (field (idBytes p))) ⌝ }
-{
-    let n = clamp(p.len);
-    let bytes = p.bytes;
-    out[at] = n as u8;
-    arrays::put(out, at + 1, &bytes[..n]);
-    at + 1 + n
-}
-
 // The record of a car and its phones; zero bytes where there are none.
 pub fn encode_phone_validations(car: [u8; 32], phones: PhoneList) -> SavedRecord
     ensures { λ r. ⌜ r ≡ recordOf (encoded car (phonesOf phones)) ⌝ }
@@ -59,14 +36,8 @@ pub fn encode_phone_validations(car: [u8; 32], phones: PhoneList) -> SavedRecord
     bytes[0] = 1;
     arrays::put(&mut bytes, 1, &car);
     bytes[33] = n as u8;
-    let mut at = 34;
-    let mut i = 0;
-    while i < n {
-        let p = phones.ids[i];
-        at = put_phone(&mut bytes, at, p);
-        i += 1;
-    }
-    SavedRecord { bytes, len: at }
+    let len = phone_fields::put_fields(phones, &mut bytes, 34);
+    SavedRecord { bytes, len }
 }
 
 // A refusal holds no car and no phones.
@@ -82,74 +53,26 @@ fn refused(answer: RecordVerdict) -> Decoded
     }
 }
 
-// The length of the phone that what remains begins with; 0 if it is empty or not whole.
-fn first_length(rest: &[u8]) -> usize
-    ensures { λ r. ⌜ r ≡ firstLength (now (rest .entry)) ⌝ }
-{
-    if rest.len() == 0 {
-        return 0;
-    }
-    let n = rest[0] as usize;
-    if rest.len() - 1 < n {
-        return 0;
-    }
-    n
-}
-
-// Reads on where the count or a phone is over its limit: the record may still be malformed.
-fn only_checked(count: usize, fields: &[u8]) -> RecordVerdict
-    ensures { λ r. ⌜ r ≡ onlyChecked (readPhones count (now (fields .entry))) ⌝ }
-{
-    let mut rest = fields;
-    let mut left = count;
-    while 0 < left {
-        let n = first_length(rest);
-        if n == 0 {
-            return RecordVerdict::Malformed;
-        }
-        rest = &rest[1 + n..];
-        left -= 1;
-    }
-    if rest.len() == 0 {
-        return RecordVerdict::TooLarge;
-    }
-    RecordVerdict::Malformed
-}
-
-// Reads the phones, each from what remains of the record after the one before it.
+// Reads the phones; nothing may follow them.
 fn read_phones(car: [u8; 32], count: usize, fields: &[u8]) -> Decoded
     ensures { λ r. ⌜ r ≡ restored (judged car (readPhones count (now (fields .entry)))) ⌝ }
 {
-    if 32 < count {
-        return refused(only_checked(count, fields));
-    }
-    let mut phones = phones::empty_list();
-    let mut rest = fields;
-    let mut left = count;
-    while 0 < left {
-        let len = first_length(rest);
-        if len == 0 {
-            return refused(RecordVerdict::Malformed);
-        }
-        if 32 < len {
-            return refused(only_checked(left, rest));
-        }
-        let end = 1 + len;
-        let made = phones::make_id(&rest[1..end]);
-        let id = made.id;
-        let k = count - left;
-        phones.ids[k] = id;
-        phones.count = k + 1;
-        rest = &rest[end..];
-        left -= 1;
-    }
-    if 0 < rest.len() {
+    let read = phone_fields::read_fields(count, fields);
+    if read.used < fields.len() {
         return refused(RecordVerdict::Malformed);
     }
-    Decoded {
-        answer: RecordVerdict::Restored,
-        car,
-        phones,
+    let verdict = read.verdict;
+    match verdict {
+        FieldsVerdict::Whole => {
+            let phones = read.phones;
+            Decoded {
+                answer: RecordVerdict::Restored,
+                car,
+                phones,
+            }
+        }
+        FieldsVerdict::Malformed => refused(RecordVerdict::Malformed),
+        FieldsVerdict::TooLarge => refused(RecordVerdict::TooLarge),
     }
 }
 

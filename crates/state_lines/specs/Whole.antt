@@ -2,7 +2,7 @@
 use mathlib.Core.Bool.{false, cond}
 use Prim.Native.Nat.{ℕ, zero, suc}
 use lib.Dec.{eqb, ltb}
-use lib.ListN.{getD}
+use lib.ListN.{length, getD}
 use Rattle.ascii.specs.Ascii.{ascii}
 use Rattle.phones.specs.Phones.{idBytes, phonesOf}
 use Rattle.phones.specs.declared.ShortId.{ShortId}
@@ -61,7 +61,7 @@ policy s p = p ▸ identity (s .identity) ▸ access (s .access) ▸ buses (s .b
 -- the car and the phones validated in it; none exactly if there are no phones
 unfoldable pub validated : Validations → Page → Page
 validated v p =
-    p ▸ text (ascii " validated_car=") ▸ known (ltb 0 (v .phones .count)) (v .car)
+    p ▸ text (ascii " validated_car=") ▸ known (ltb 0 (length (phonesOf (v .phones)))) (v .car)
     ▸ text (ascii " validated=") ▸ idsFrom 0 (phonesOf (v .phones))
 
 -- the connected phone; none exactly if its id is empty

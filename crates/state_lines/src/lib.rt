@@ -117,9 +117,10 @@ fn put_validated(out: &mut [u8], at: usize, v: Validations) -> usize
     ensures { λ r. ⌜ page (now (out .exit)) r ≡ validated v (page (now (out .entry)) at) ⌝ }
 {
     let list = v.phones;
+    let n = phones::count(list);
     let digest = v.car;
     let fields = [
-        Field::Known(key::VALIDATED_CAR, 0 < list.count),
+        Field::Known(key::VALIDATED_CAR, 0 < n),
         Field::Key(key::VALIDATED),
         Field::Nothing,
         Field::Nothing,

@@ -13,7 +13,9 @@ use Rattle.phones.specs.declared.ShortId.{ShortId}
 use Rattle.phones.specs.Phones.{idBytes, tooLong, idInRange, phonesOf, listOf, contains, appended, listInRange}
 use Rattle.phones.proofs.Range.{Short, list-range, range-append}
 use Rattle.frames.specs.declared.ProbeFrame.{ProbeFrame}
-use Rattle.saved_record.specs.SavedRecord.{Reading, malformed, tooLarge, ok, anyLong, overLimits, decoded, refusal, restored}
+use Rattle.phone_fields.specs.PhoneFields.{anyLong, overLimits}
+use Rattle.phone_fields.proofs.Laws.{none-long-short}
+use Rattle.saved_record.specs.SavedRecord.{Reading, malformed, tooLarge, ok, decoded, refusal, restored}
 use Rattle.saved_record.proofs.RoundTrip.{accepted-well-formed}
 use Rattle.state.specs.declared.Methods.{Methods}
 use Rattle.state.specs.declared.Settings.{Settings}
@@ -104,23 +106,13 @@ validate-range v car p h k = go (ltb 0 (length (phonesOf (v .phones))) && sameBy
     go false b = list-range (idBytes p ∷ []) (omega arith) (one-short (idBytes p) (id-short p k))
 
 -- what is accepted is within the limits; what is refused leaves nobody
-limits-short : (ps : List (List ℕ)) → anyLong ps ≡ false → Short ps
-unfolding anyLong
-limits-short [] h = λ i. omega arith
-limits-short (p ∷ ps) h = go (ltb 32 (length p)) refl h (λ q. limits-short ps q)
-  where
-    go : (b : Bool) → ltb 32 (length p) ≡ b → cond b true (anyLong ps) ≡ false → (anyLong ps ≡ false → Short ps) → Short (p ∷ ps)
-    go true e q rest i = absurd (true≢false q)
-    go false e q rest zero = ltb-false 32 (length p) e
-    go false e q rest (suc i) = rest q i
-
 limits-range : (ps : List (List ℕ)) → overLimits ps ≡ false → listInRange (listOf ps) ≡ true
 unfolding overLimits
 limits-range ps h = go (ltb 32 (length ps)) refl h
   where
     go : (b : Bool) → ltb 32 (length ps) ≡ b → cond b true (anyLong ps) ≡ false → listInRange (listOf ps) ≡ true
     go true e q = absurd (true≢false q)
-    go false e q = list-range ps (ltb-false 32 (length ps) e) (limits-short ps q)
+    go false e q = list-range ps (ltb-false 32 (length ps) e) (none-long-short ps q)
 
 pub restored-range : (bytes : List ℕ) → listInRange (restored (decoded bytes) .phones) ≡ true
 unfolding restored refusal

@@ -11,7 +11,8 @@ use Rattle.draw.specs.Draw.{digits, drawLimit, drawn, firstBelow, group}
 use Rattle.text.specs.Utf8.{decode, encode, encodeAll}
 use Rattle.text.specs.Text.{isText, right, trim, trimFront, trimmed, white}
 use Rattle.text.specs.Utf8 as Utf8
-use Rattle.saved_record.specs.SavedRecord.{encoded, field, fields, recordOf}
+use Rattle.phone_fields.specs.PhoneFields.{field, fields}
+use Rattle.saved_record.specs.SavedRecord.{encoded, recordOf}
 use Rattle.state.specs.declared.Kind.the-variants.{CodeEntry}
 use Rattle.state.specs.declared.Status.{Status}
 use Rattle.state.specs.declared.Status.the-variants.{InProgress, Succeeded}

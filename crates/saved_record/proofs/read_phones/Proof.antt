@@ -1,163 +1,67 @@
--- The loop's invariant: what is kept so far, and what is left to read from what remains (`Kept`). The measure is what is left to read.
+-- What `read_fields` says of the phones, and whether something follows them.
+use mathlib.Core.Path.{_∙_}
 use borrow.Author.Needs.{needs}
-use mathlib.Core.Path.{refl, sym, _∙_}
-use mathlib.Core.List.{List, []}
-use Prim.Native.Nat.{ℕ}
-use native.Mathlib.Omega.{arith}
-use Rattle.saved_record.specs.SavedRecord.{anyLong}
-use Rattle.saved_record.proofs.Reading.{Kept, after, first-fits, read-all, read-trailing, read-none, too-many, kept-none, kept-all, kept-long, kept-step}
+use Rattle.saved_record.proofs.Reading.{read-trailing, read-used}
 use Rattle.saved_record.proofs.read_phones.Statement.{statement}
 use Rattle.saved_record.proofs.read_phones.Tie as tie
 
-abbrev Inv-loop : tie.InvT-loop
-Inv-loop car count fields phones₀ rest₀ left₀ phones rest left = (done : List (List ℕ)) × Kept car count fields phones rest left done
+read-fields-requires : tie.Need-read-fields-requires
+read-fields-requires c κs = tt
 
-abbrev μ-loop : tie.MeasureT-loop
-μ-loop car count fields phones₀ rest₀ left₀ phones rest left = left
-
-only-checked-requires : tie.Need-only-checked-requires Inv-loop μ-loop
-only-checked-requires c κs = tt
-
-refused-requires : tie.Need-refused-requires Inv-loop μ-loop
+refused-requires : tie.Need-refused-requires
 refused-requires c κs = tt
 
-returns : tie.Need-returns Inv-loop μ-loop
+returns : tie.Need-returns
 returns c =
-    rw (c .refused .ensures, c .before .only-checked .ensures)
-    (too-many (c .before .before .before .before .args .car) (c .before .before .before .before .args .count) (c .before .before .before .before .args .fields .now) (c .before .before .if1 .taken))
+    let s = c .before .before .before .before .before in
+    let read = c .before .before .before .read-fields in
+    c .refused .ensures ∙ read-trailing (s .args .car) (s .args .count) (s .args .fields .now) (read .result) (read .ensures) (c .before .if1 .taken)
 
-empty-list-requires : tie.Need-empty-list-requires Inv-loop μ-loop
-empty-list-requires c κs = tt
+enum-told : tie.Need-enum-told
+enum-told c = search needs
 
-loop-holds : tie.Need-loop-holds Inv-loop μ-loop
-unfolding after anyLong
-loop-holds c =
-    ([], record { within = omega arith; list = c .empty-list .ensures; many = omega arith; short = refl; reading = refl })
+enum-told-2 : tie.Need-enum-told-2
+enum-told-2 c = search needs
 
-first-length-requires : tie.Need-first-length-requires Inv-loop μ-loop
-first-length-requires c κs = tt
-
-refused-requires-2 : tie.Need-refused-requires-2 Inv-loop μ-loop
+refused-requires-2 : tie.Need-refused-requires-2
 refused-requires-2 c κs = tt
 
-returns-2 : tie.Need-returns-2 Inv-loop μ-loop
-returns-2 c =
-    let at = c .before .before .before .before .loop in
-    rw (c .refused2 .ensures)
-    (kept-none _ _ _ _ _ _ _ (c .before .before .before .before .before .before .if1 .left) (at .inv .1)
-    (read-none (at .left) (at .rest .now) (c .before .before .before .loop-test .taken) (sym (c .before .if2 .taken) ∙ c .before .before .first-length .ensures)))
+enum-told-3 : tie.Need-enum-told-3
+enum-told-3 c = search needs
 
-only-checked-requires-2 : tie.Need-only-checked-requires-2 Inv-loop μ-loop
-only-checked-requires-2 c κs = tt
-
-refused-requires-3 : tie.Need-refused-requires-3 Inv-loop μ-loop
+refused-requires-3 : tie.Need-refused-requires-3
 refused-requires-3 c κs = tt
 
-returns-3 : tie.Need-returns-3 Inv-loop μ-loop
+returns-2 : tie.Need-returns-2
+returns-2 c =
+    let s = c .before .before .before .before .before .before .before in
+    let read = c .before .before .before .before .before .read-fields in
+    read-used (s .args .car) (s .args .count) (s .args .fields .now) (read .result) (read .ensures) _ (c .before .enum-told .given .1) (c .before .before .before .if1 .left)
+
+returns-3 : tie.Need-returns-3
 returns-3 c =
-    let at = c .before .before .before .before .before .before .loop in
-    let first = c .before .before .before .before .first-length in
-    rw (c .refused3 .ensures, c .before .only-checked2 .ensures)
-    (kept-long _ _ _ _ _ _ _ (c .before .before .before .before .before .before .before .before .if1 .left) (at .inv .1) (first .result) (c .before .before .before .before .before .loop-test .taken) (first .ensures) (c .before .before .before .if2 .left) (c .before .before .if3 .taken))
+    let s = c .before .before .before .before .before .before .before in
+    let read = c .before .before .before .before .before .read-fields in
+    c .refused2 .ensures ∙ read-used (s .args .car) (s .args .count) (s .args .fields .now) (read .result) (read .ensures) _ (c .before .enum-told2 .given .1) (c .before .before .before .if1 .left)
 
-add-end : tie.Need-add-end Inv-loop μ-loop
-add-end c =
-    let fit = first-fits (c .before .before .before .before .loop .rest .now) (c .before .before .first-length .result) (c .before .before .first-length .ensures) (c .before .if2 .left) in
-    omega arith
-
-sub-make-id : tie.Need-sub-make-id Inv-loop μ-loop
-sub-make-id c = omega arith
-
-part-make-id-start : tie.Need-part-make-id-start Inv-loop μ-loop
-part-make-id-start c = search needs
-
-part-make-id-end : tie.Need-part-make-id-end Inv-loop μ-loop
-part-make-id-end c = first-fits (c .before .before .before .before .loop .rest .now) (c .before .before .first-length .result) (c .before .before .first-length .ensures) (c .before .if2 .left)
-
-make-id-requires : tie.Need-make-id-requires Inv-loop μ-loop
-make-id-requires c κs = tt
-
-sub-k : tie.Need-sub-k Inv-loop μ-loop
-sub-k c = let m = c .before .before .before .before .before .before .before .loop .inv .1 .many in omega arith
-
-mul-id : tie.Need-mul-id Inv-loop μ-loop
-mul-id c = let m = c .before .before .before .before .before .before .before .loop .inv .1 .many in omega arith
-
-element-set-from-id : tie.Need-element-set-from-id Inv-loop μ-loop
-element-set-from-id c = let m = c .before .before .before .before .before .before .before .loop .inv .1 .many in omega arith
-
-add-phones : tie.Need-add-phones Inv-loop μ-loop
-add-phones c = let m = c .before .before .before .before .before .before .before .loop .inv .1 .many in omega arith
-
-sub-rest : tie.Need-sub-rest Inv-loop μ-loop
-sub-rest c = first-fits (c .before .before .before .before .before .before .before .loop .rest .now) (c .before .before .before .before .before .first-length .result) (c .before .before .before .before .before .first-length .ensures) (c .before .before .before .before .if2 .left)
-
-part-rest-start : tie.Need-part-rest-start Inv-loop μ-loop
-part-rest-start c = first-fits (c .before .before .before .before .before .before .before .loop .rest .now) (c .before .before .before .before .before .first-length .result) (c .before .before .before .before .before .first-length .ensures) (c .before .before .before .before .if2 .left)
-
-part-rest-end : tie.Need-part-rest-end Inv-loop μ-loop
-part-rest-end c = search needs
-
-sub-left : tie.Need-sub-left Inv-loop μ-loop
-sub-left c = search needs
-
-loop-less : tie.Need-loop-less Inv-loop μ-loop
-loop-less c = search needs
-
-loop-again : tie.Need-loop-again Inv-loop μ-loop
-loop-again c =
-    let at = c .before .before .before .before .before .before .before .before .loop in
-    let first = c .before .before .before .before .before .before .first-length in (
-      _,
-      kept-step _ _ _ _ _ _ _ (c .before .before .before .before .before .before .before .before .before .before .if1 .left) (at .inv .1) (first .result) (c .before .before .before .before .before .before .before .loop-test .taken) (first .ensures) (c .before .before .before .before .before .if2 .left) (c .before .before .make-id .result) (c .before .before .before .before .if3 .left) (c .before .before .make-id .ensures),
-    )
-
-refused-requires-4 : tie.Need-refused-requires-4 Inv-loop μ-loop
-refused-requires-4 c κs = tt
-
-returns-4 : tie.Need-returns-4 Inv-loop μ-loop
+returns-4 : tie.Need-returns-4
 returns-4 c =
-    let at = c .before .before .before .loop in
-    rw (c .refused4 .ensures)
-    (kept-none _ _ _ _ _ _ _ (c .before .before .before .before .before .if1 .left) (at .inv .1) (read-trailing (at .left) (at .rest .now) (omega arith) (c .before .if4 .taken)))
-
-returns-5 : tie.Need-returns-5 Inv-loop μ-loop
-returns-5 c =
-    let at = c .before .before .loop in
-    kept-all _ _ _ _ _ _ _ (c .before .before .before .before .if1 .left) (at .inv .1) (read-all (at .left) (at .rest .now) (omega arith) (c .if4 .left)) (omega arith)
+    let s = c .before .before .before .before .before .before .before in
+    let read = c .before .before .before .before .before .read-fields in
+    c .refused3 .ensures ∙ read-used (s .args .car) (s .args .count) (s .args .fields .now) (read .result) (read .ensures) _ (c .before .enum-told3 .given .1) (c .before .before .before .if1 .left)
 
 pub read-phones-spec : {M : Type 1} → statement M
 read-phones-spec =
     tie.close
     (tie.spec
-    Inv-loop
-    μ-loop
-    only-checked-requires
+    read-fields-requires
     refused-requires
     returns
-    empty-list-requires
-    loop-holds
-    first-length-requires
+    enum-told
+    enum-told-2
     refused-requires-2
-    returns-2
-    only-checked-requires-2
+    enum-told-3
     refused-requires-3
+    returns-2
     returns-3
-    add-end
-    sub-make-id
-    part-make-id-start
-    part-make-id-end
-    make-id-requires
-    sub-k
-    mul-id
-    element-set-from-id
-    add-phones
-    sub-rest
-    part-rest-start
-    part-rest-end
-    sub-left
-    loop-less
-    loop-again
-    refused-requires-4
-    returns-4
-    returns-5)
+    returns-4)

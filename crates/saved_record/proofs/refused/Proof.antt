@@ -1,6 +1,5 @@
 -- Zeros and the empty list, with the answer as it came.
 use Rattle.saved_record.specs.SavedRecord.{refusal}
-use Rattle.saved_record.specs.Steps.{firstLength}
 use Rattle.saved_record.proofs.refused.Statement.{statement}
 use Rattle.saved_record.proofs.refused.Tie as tie
 
@@ -8,7 +7,7 @@ empty-list-requires : tie.Need-empty-list-requires
 empty-list-requires c κs = tt
 
 returns : tie.Need-returns
-unfolding refusal firstLength
+unfolding refusal
 returns c = rw (← c .empty-list .ensures)
 
 pub refused-spec : {M : Type 1} → statement M

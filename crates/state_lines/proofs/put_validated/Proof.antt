@@ -10,6 +10,7 @@ unfolding keyNames keys putFields validated
 put-validated-spec =
     tie.close
     (tie.spec
+    (λ c κs. tt)
     (λ c. search needs)
     (λ c κs. tt)
     (λ c κs. tt)

@@ -2,19 +2,19 @@
 use borrow.Author.Needs.{needs}
 use mathlib.Core.Path.{_≡_, refl, sym, _∙_}
 use native.Mathlib.Omega.{arith}
-use Rattle.saved_record.specs.SavedRecord.{readPhones}
-use Rattle.saved_record.specs.Steps.{onlyChecked}
-use Rattle.saved_record.proofs.Reading.{first-fits, read-all, read-trailing, read-none, checked-step, tail-length}
+use Rattle.phone_fields.specs.PhoneFields.{readFields}
+use Rattle.phone_fields.specs.Steps.{onlyChecked}
+use Rattle.phone_fields.proofs.Reading.{first-fits, read-all, read-none, checked-step, tail-length}
 use lib.ListN.{length}
 use Prim.Native.Nat.{_≤_, _+_}
-use Rattle.saved_record.proofs.only_checked.Statement.{statement}
-use Rattle.saved_record.proofs.only_checked.Tie as tie
+use Rattle.phone_fields.proofs.only_checked.Statement.{statement}
+use Rattle.phone_fields.proofs.only_checked.Tie as tie
 
 abbrev Inv-loop : tie.InvT-loop
-Inv-loop count fields rest₀ left₀ rest left = (length rest ≤ length fields) × (onlyChecked (readPhones count fields) ≡ onlyChecked (readPhones left rest))
+Inv-loop count part total rest₀ left₀ rest left = (length rest ≤ length part) × (onlyChecked total (readFields count part) ≡ onlyChecked total (readFields left rest))
 
 abbrev μ-loop : tie.MeasureT-loop
-μ-loop count fields rest₀ left₀ rest left = left
+μ-loop count part total rest₀ left₀ rest left = left
 
 loop-holds : tie.Need-loop-holds Inv-loop μ-loop
 loop-holds c = (omega arith, refl)
@@ -22,10 +22,13 @@ loop-holds c = (omega arith, refl)
 first-length-requires : tie.Need-first-length-requires Inv-loop μ-loop
 first-length-requires c κs = tt
 
+refused-requires : tie.Need-refused-requires Inv-loop μ-loop
+refused-requires c κs = tt
+
 returns : tie.Need-returns Inv-loop μ-loop
 returns c =
-    let at = c .before .before .before in
-    rw (at .loop .inv .1, read-none (at .loop .left) (at .loop .rest .now) (c .before .before .loop-test .taken) (sym (c .if1 .taken) ∙ c .before .first-length .ensures))
+    let at = c .before .before .before .before in
+    rw (c .refused .ensures, at .loop .inv .1, read-none (at .loop .left) (at .loop .rest .now) (c .before .before .before .loop-test .taken) (sym (c .before .if1 .taken) ∙ c .before .before .first-length .ensures))
 
 add-rest : tie.Need-add-rest Inv-loop μ-loop
 add-rest c =
@@ -51,17 +54,20 @@ loop-again : tie.Need-loop-again Inv-loop μ-loop
 loop-again c =
     let at = c .before .before .before .before in
     let first = c .before .before .first-length in
-    (tail-length (at .loop .rest .now) (1 + first .result) (at .loop .inv .0), at .loop .inv .1 ∙ checked-step (at .loop .left) (at .loop .rest .now) (first .result) (c .before .before .before .loop-test .taken) (first .ensures) (c .before .if1 .left))
+    (tail-length (at .loop .rest .now) (1 + first .result) (at .loop .inv .0), at .loop .inv .1 ∙ checked-step _ (at .loop .left) (at .loop .rest .now) (first .result) (c .before .before .before .loop-test .taken) (first .ensures) (c .before .if1 .left))
+
+sub-refused : tie.Need-sub-refused Inv-loop μ-loop
+sub-refused c =
+    let h = c .before .before .before .pre in
+    omega (arith, h)
+
+refused-requires-2 : tie.Need-refused-requires-2 Inv-loop μ-loop
+refused-requires-2 c κs = tt
 
 returns-2 : tie.Need-returns-2 Inv-loop μ-loop
 returns-2 c =
     let at = c .before .before in
-    rw (at .loop .inv .1, read-all (at .loop .left) (at .loop .rest .now) (omega arith) (omega arith))
-
-returns-3 : tie.Need-returns-3 Inv-loop μ-loop
-returns-3 c =
-    let at = c .before .before in
-    rw (at .loop .inv .1, read-trailing (at .loop .left) (at .loop .rest .now) (omega arith) (omega (arith, c .if2 .left)))
+    rw (c .refused2 .ensures, at .loop .inv .1, read-all (at .loop .left) (at .loop .rest .now) (omega arith))
 
 pub only-checked-spec : {M : Type 1} → statement M
 only-checked-spec =
@@ -71,6 +77,7 @@ only-checked-spec =
     μ-loop
     loop-holds
     first-length-requires
+    refused-requires
     returns
     add-rest
     sub-rest
@@ -79,5 +86,6 @@ only-checked-spec =
     sub-left
     loop-less
     loop-again
-    returns-2
-    returns-3)
+    sub-refused
+    refused-requires-2
+    returns-2)

@@ -1,9 +1,9 @@
 -- The length byte is read where there is one; the phone is whole where as many bytes follow.
 use native.Mathlib.Omega.{arith}
-use Rattle.saved_record.proofs.Reading.{first-none, first-short, first-whole}
+use Rattle.phone_fields.proofs.Reading.{first-none, first-short, first-whole}
 use borrow.Author.Needs.{needs}
-use Rattle.saved_record.proofs.first_length.Statement.{statement}
-use Rattle.saved_record.proofs.first_length.Tie as tie
+use Rattle.phone_fields.proofs.first_length.Statement.{statement}
+use Rattle.phone_fields.proofs.first_length.Tie as tie
 
 returns : tie.Need-returns
 returns c = first-none _ (c .if1 .taken)

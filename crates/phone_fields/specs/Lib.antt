@@ -1,0 +1,2 @@
+pub mod PhoneFields
+pub mod Steps
