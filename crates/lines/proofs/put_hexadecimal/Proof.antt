@@ -5,42 +5,23 @@ use borrow.Author.Needs.{needs}
 use Rattle.lines.proofs.put_hexadecimal.Statement.{statement}
 use Rattle.lines.proofs.put_hexadecimal.Tie as tie
 
-put-digit-requires : tie.Need-put-digit-requires
-put-digit-requires c κs = search needs
-
-put-digit-requires-2 : tie.Need-put-digit-requires-2
-put-digit-requires-2 c κs = search needs
-
-put-digit-requires-3 : tie.Need-put-digit-requires-3
-put-digit-requires-3 c κs = search needs
-
-put-digit-requires-4 : tie.Need-put-digit-requires-4
-put-digit-requires-4 c κs = search needs
-
-put-digit-requires-5 : tie.Need-put-digit-requires-5
-put-digit-requires-5 c κs = search needs
-
-put-digit-requires-6 : tie.Need-put-digit-requires-6
-put-digit-requires-6 c κs = search needs
-
-put-digit-requires-7 : tie.Need-put-digit-requires-7
-put-digit-requires-7 c κs = search needs
-
-cast-hex-digit : tie.Need-cast-hex-digit
-cast-hex-digit c = search needs
-
-hex-digit-requires : tie.Need-hex-digit-requires
-hex-digit-requires c κs = tt
-
-slice-aggregate-put-text : tie.Need-slice-aggregate-put-text
-slice-aggregate-put-text c = refl
-
-put-text-requires : tie.Need-put-text-requires
-put-text-requires c κs = tt
-
-same-length : tie.Need-same-length
-same-length c =
-    let c1 = c .before .before in
+pub put-hexadecimal-spec : {M : Type 1} → statement M
+unfolding hexadecimal
+put-hexadecimal-spec =
+    tie.close
+    (tie.spec
+    (λ c κs. search needs)
+    (λ c κs. search needs)
+    (λ c κs. search needs)
+    (λ c κs. search needs)
+    (λ c κs. search needs)
+    (λ c κs. search needs)
+    (λ c κs. search needs)
+    (λ c. search needs)
+    (λ c κs. search needs)
+    (λ c. refl)
+    (λ c κs. search needs)
+    (λ c. let c1 = c .before .before in
     let c2 = c1 .before .before .before .before .before .before in
     let c3 = c2 .before .before .before .before in
     let c4 = c3 .before .before .before .before in
@@ -48,12 +29,8 @@ same-length c =
     let c6 = c5 .before .before .before .before in
     let c7 = c6 .before .before .before .before in
     let c8 = c7 .before .before .before .before in
-    c1 .put-text .kept .0 ∙ c2 .put-digit7 .kept .0 ∙ c3 .put-digit6 .kept .0 ∙ c4 .put-digit5 .kept .0 ∙ c5 .put-digit4 .kept .0 ∙ c6 .put-digit3 .kept .0 ∙ c7 .put-digit2 .kept .0 ∙ c8 .put-digit .kept .0
-
-returns : tie.Need-returns
-unfolding hexadecimal
-returns c =
-    let c8 = c .before .before .before .before .before in
+    c1 .put-text .kept .0 ∙ c2 .put-digit7 .kept .0 ∙ c3 .put-digit6 .kept .0 ∙ c4 .put-digit5 .kept .0 ∙ c5 .put-digit4 .kept .0 ∙ c6 .put-digit3 .kept .0 ∙ c7 .put-digit2 .kept .0 ∙ c8 .put-digit .kept .0)
+    (λ c. let c8 = c .before .before .before .before .before in
     let c7 = c8 .before .before .before in
     let c6 = c7 .before .before .before .before in
     let c5 = c6 .before .before .before .before in
@@ -61,22 +38,4 @@ returns c =
     let c3 = c4 .before .before .before .before in
     let c2 = c3 .before .before .before .before in
     let c1 = c2 .before .before .before .before in
-    rw (c .before .before .put-text .ensures, c8 .hex-digit .ensures, mod-twice, c7 .put-digit7 .ensures, c6 .put-digit6 .ensures, c5 .put-digit5 .ensures, c4 .put-digit4 .ensures, c3 .put-digit3 .ensures, c2 .put-digit2 .ensures, c1 .put-digit .ensures)
-
-pub put-hexadecimal-spec : {M : Type 1} → statement M
-put-hexadecimal-spec =
-    tie.close
-    (tie.spec
-    put-digit-requires
-    put-digit-requires-2
-    put-digit-requires-3
-    put-digit-requires-4
-    put-digit-requires-5
-    put-digit-requires-6
-    put-digit-requires-7
-    cast-hex-digit
-    hex-digit-requires
-    slice-aggregate-put-text
-    put-text-requires
-    same-length
-    returns)
+    rw (c .before .before .put-text .ensures, c8 .hex-digit .ensures, mod-twice, c7 .put-digit7 .ensures, c6 .put-digit6 .ensures, c5 .put-digit5 .ensures, c4 .put-digit4 .ensures, c3 .put-digit3 .ensures, c2 .put-digit2 .ensures, c1 .put-digit .ensures)))

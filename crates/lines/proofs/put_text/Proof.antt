@@ -8,30 +8,15 @@ use borrow.Author.Needs.{needs}
 use Rattle.lines.proofs.put_text.Statement.{statement}
 use Rattle.lines.proofs.put_text.Tie as tie
 
-returns : tie.Need-returns
-unfolding text
-returns c = let a = c .before .before .before .args in rw (lt-ltb (length (now (a .out))) (a .at + length (now (a .src))) (omega arith))
-
-sub-if2 : tie.Need-sub-if2
-sub-if2 c = search needs
-
-returns-2 : tie.Need-returns-2
-unfolding text
-returns-2 c = let a = c .before .before .before .before .args in rw (lt-ltb (length (now (a .out))) (a .at + length (now (a .src))) (omega arith))
-
-put-requires : tie.Need-put-requires
-put-requires c κs = search needs
-
-add-result : tie.Need-add-result
-add-result c = search needs
-
-same-length : tie.Need-same-length
-same-length c = c .before .before .put .kept .0
-
-returns-3 : tie.Need-returns-3
-unfolding text
-returns-3 c = let a = c .before .before .before .before .before .before .before .before .args in rw (c .before .before .put .ensures, le-ltb (length (now (a .out))) (a .at + length (now (a .src))) (omega arith))
-
 pub put-text-spec : {M : Type 1} → statement M
+unfolding text
 put-text-spec =
-    tie.close (tie.spec returns sub-if2 returns-2 put-requires add-result same-length returns-3)
+    tie.close
+    (tie.spec
+    (λ c. let a = c .before .before .before .args in rw (lt-ltb (length (now (a .out))) (a .at + length (now (a .src))) (omega arith)))
+    (λ c. search needs)
+    (λ c. let a = c .before .before .before .before .args in rw (lt-ltb (length (now (a .out))) (a .at + length (now (a .src))) (omega arith)))
+    (λ c κs. search needs)
+    (λ c. search needs)
+    (λ c. c .before .before .put .kept .0)
+    (λ c. let a = c .before .before .before .before .before .before .before .before .args in rw (c .before .before .put .ensures, le-ltb (length (now (a .out))) (a .at + length (now (a .src))) (omega arith))))

@@ -1,4 +1,3 @@
--- The invariant: the ids from i on are still to be laid down.
 use mathlib.Core.Path.{_≡_, refl, _∙_}
 use Prim.Native.Nat.{_≤_, _-_}
 use native.Mathlib.Omega.{arith}
@@ -18,52 +17,26 @@ Inv-loop out₀ at l n k₀ i₀ out k i =
 abbrev μ-loop : tie.MeasureT-loop
 μ-loop out₀ at l n k₀ i₀ out k i = n - i
 
-count-requires : tie.Need-count-requires Inv-loop μ-loop
-count-requires c κs = tt
-
-loop-holds : tie.Need-loop-holds Inv-loop μ-loop
-loop-holds c = (omega arith, c .count .ensures, refl, refl)
-
-put-phone-at-requires : tie.Need-put-phone-at-requires Inv-loop μ-loop
-put-phone-at-requires c κs = tt
-
-add-i : tie.Need-add-i Inv-loop μ-loop
-add-i c = omega arith
-
-loop-less : tie.Need-loop-less Inv-loop μ-loop
-loop-less c = omega arith
-
-loop-again : tie.Need-loop-again Inv-loop μ-loop
-loop-again c =
-    let f = c .before .before .put-phone-at in
-    let l = c .before .before .before .before .before .loop in
-    let a = c .before .before .before .before .before .before .before .before .args in (
-      omega arith,
-      l .inv .1,
-      f .kept .0 ∙ l .inv .2,
-      ids-again (phonesOf (a .l)) (l .i) (page (now (a .out)) (a .at)) (page (l .out) (l .k)) (l .inv .3) (page (f .last .0) (f .result)) (omega arith) (f .ensures),
-    )
-
-same-length : tie.Need-same-length Inv-loop μ-loop
-same-length c = c .before .loop .inv .2
-
-returns : tie.Need-returns Inv-loop μ-loop
-returns c =
-    let l = c .before .loop in
-    let a = c .before .before .before .before .args in
-    ids-end (phonesOf (a .l)) (l .i) (page (now (a .out)) (a .at)) (page (l .out) (l .k)) (l .inv .3) (omega arith)
-
 pub put-phones-spec : {M : Type 1} → statement M
 put-phones-spec =
     tie.close
     (tie.spec
     Inv-loop
     μ-loop
-    count-requires
-    loop-holds
-    put-phone-at-requires
-    add-i
-    loop-less
-    loop-again
-    same-length
-    returns)
+    (λ c κs. tt)
+    (λ c. (omega arith, c .count .ensures, refl, refl))
+    (λ c κs. tt)
+    (λ c. omega arith)
+    (λ c. omega arith)
+    (λ c. let f = c .before .before .put-phone-at in
+    let l = c .before .before .before .before .before .loop in
+    let a = c .before .before .before .before .before .before .before .before .args in (
+      omega arith,
+      l .inv .1,
+      f .kept .0 ∙ l .inv .2,
+      ids-again (phonesOf (a .l)) (l .i) (page (now (a .out)) (a .at)) (page (l .out) (l .k)) (l .inv .3) (page (f .last .0) (f .result)) (omega arith) (f .ensures),
+    ))
+    (λ c. c .before .loop .inv .2)
+    (λ c. let l = c .before .loop in
+    let a = c .before .before .before .before .args in
+    ids-end (phonesOf (a .l)) (l .i) (page (now (a .out)) (a .at)) (page (l .out) (l .k)) (l .inv .3) (omega arith)))
