@@ -39,7 +39,7 @@ pub fn plain_query(g: Gate, name: usize, i: Items, p: Ends, room: &[u8]) -> Answ
     }
 }
 
-// The queries whose answers hold more, by their place, and so: lays the answer down.
+// Lays down the answer of a query that holds more, by the query's place; a number past the last asks the first.
 pub fn put_long(
     g: Gate,
     name: usize,

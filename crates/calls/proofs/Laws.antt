@@ -46,7 +46,20 @@ module _ {A : Type 0} (f : A → Line) where
   behind (y ∷ ys) rest zero h = absurd (not-suc-le-zero h)
   behind (y ∷ ys) rest (suc n) h = let e : suc n - suc (length ys) ≡ n - length ys = omega arith in rw e (behind ys rest n (le-of-suc-le-suc h))
 
--- the line of a row, by the numbers of rows before its kind
+-- how many rows each kind has
+abbrev phones : ℕ
+phones = 13
+
+abbrev cans : ℕ
+cans = 18
+
+abbrev plains : ℕ
+plains = 17
+
+abbrev longs : ℕ
+longs = 9
+
+-- the line of a row, by its kind and its place there
 module _ (i : Items) (b : Bytes) (n : ℕ) where
   abbrev fromLong : List Line
   fromLong = map asking (longQueries i b) ++ otherLines i
@@ -57,36 +70,36 @@ module _ (i : Items) (b : Bytes) (n : ℕ) where
   abbrev fromCan : List Line
   fromCan = map call (canCalls i b) ++ fromPlain
 
-  pub line-phone : n < 13 → lineOf n i b ≡ call (phoneCall n i b)
+  pub line-phone : n < phones → lineOf n i b ≡ call (phoneCall n i b)
   unfolding lineOf lines phoneCall phoneCalls
   line-phone h = here call (phoneCalls i b) fromCan n (newCall i) h
 
-  module _ (h : 13 ≤ n) where
-    pub line-can : n - 13 < 18 → lineOf n i b ≡ call (canCall (n - 13) i b)
+  module _ (h : phones ≤ n) where
+    pub line-can : n - phones < cans → lineOf n i b ≡ call (canCall (n - phones) i b)
     unfolding lineOf lines phoneCalls canCall canCalls
-    line-can t = behind call (phoneCalls i b) fromCan n h ∙ here call (canCalls i b) fromPlain (n - 13) (change approveCanReadWrite) t
+    line-can t = behind call (phoneCalls i b) fromCan n h ∙ here call (canCalls i b) fromPlain (n - phones) (change approveCanReadWrite) t
 
-    module _ (k : 18 ≤ n - 13) where
-      pub line-plain : n - 13 - 18 < 17 → lineOf n i b ≡ call (ask (plainQuery (n - 13 - 18) i b))
+    module _ (k : cans ≤ n - phones) where
+      pub line-plain : n - phones - cans < plains → lineOf n i b ≡ call (ask (plainQuery (n - phones - cans) i b))
       unfolding lineOf lines phoneCalls canCalls plainQuery plainQueries
       line-plain t =
           behind call (phoneCalls i b) fromCan n h
-          ∙ behind call (canCalls i b) fromPlain (n - 13) k
-          ∙ here asking (plainQueries i b) fromLong (n - 13 - 18) isCanReadOnly t
+          ∙ behind call (canCalls i b) fromPlain (n - phones) k
+          ∙ here asking (plainQueries i b) fromLong (n - phones - cans) isCanReadOnly t
 
-      module _ (l : 17 ≤ n - 13 - 18) where
-        pub line-long : n - 13 - 18 - 17 < 9 → lineOf n i b ≡ call (ask (longQuery (n - 13 - 18 - 17) i b))
+      module _ (l : plains ≤ n - phones - cans) where
+        pub line-long : n - phones - cans - plains < longs → lineOf n i b ≡ call (ask (longQuery (n - phones - cans - plains) i b))
         unfolding lineOf lines phoneCalls canCalls plainQueries longQuery longQueries
         line-long t =
             behind call (phoneCalls i b) fromCan n h
-            ∙ behind call (canCalls i b) fromPlain (n - 13) k
-            ∙ behind asking (plainQueries i b) fromLong (n - 13 - 18) l
-            ∙ here asking (longQueries i b) (otherLines i) (n - 13 - 18 - 17) canReadWriteApproval t
+            ∙ behind call (canCalls i b) fromPlain (n - phones) k
+            ∙ behind asking (plainQueries i b) fromLong (n - phones - cans) l
+            ∙ here asking (longQueries i b) (otherLines i) (n - phones - cans - plains) canReadWriteApproval t
 
-        pub line-other : 9 ≤ n - 13 - 18 - 17 → lineOf n i b ≡ otherLine (n - 13 - 18 - 17 - 9) i
+        pub line-other : longs ≤ n - phones - cans - plains → lineOf n i b ≡ otherLine (n - phones - cans - plains - longs) i
         unfolding lineOf lines phoneCalls canCalls plainQueries longQueries otherLine
         line-other t =
             behind call (phoneCalls i b) fromCan n h
-            ∙ behind call (canCalls i b) fromPlain (n - 13) k
-            ∙ behind asking (plainQueries i b) fromLong (n - 13 - 18) l
-            ∙ behind asking (longQueries i b) (otherLines i) (n - 13 - 18 - 17) t
+            ∙ behind call (canCalls i b) fromPlain (n - phones) k
+            ∙ behind asking (plainQueries i b) fromLong (n - phones - cans) l
+            ∙ behind asking (longQueries i b) (otherLines i) (n - phones - cans - plains) t

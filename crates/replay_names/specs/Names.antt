@@ -8,8 +8,9 @@ use lib.ListN.{length, getD}
 use Rattle.ascii.specs.Ascii.{ascii}
 use Rattle.words.specs.Words.{linesOf, restOf, placeIn}
 
--- a row to a name: the calls of the phones (13), those of the bike (18), the queries with a plain answer (17), those with a longer
--- one (9), and the two lines that are no calls
+-- A row to a name: the calls of the phones, from `new` on, and those of the bike, from `approve_can_read_write` on; the queries with a
+-- plain answer, from `is_can_read_only` on, and those with a longer one, from `can_read_write_approval` on; the two lines that are no
+-- calls. calls/specs/Calls.antt has what each makes, in the same order.
 unfoldable pub table : List String
 table =
     "new settings methods"
@@ -109,7 +110,7 @@ rows = map ascii table
 unfoldable pub keys : List (List ℕ)
 keys = map ascii keyNames
 
--- `right` says of each key whether its items are there, once and of their form: here, of these keys
+-- `right` says of each key whether its items are there and of their form: here, of these keys
 unfoldable pub allRight : List (List ℕ) → List Bool → List (List ℕ) → Bool
 allRight ks right [] = true
 allRight ks right (w ∷ ws) = cond (getD right (placeIn ks w) false) (allRight ks right ws) false

@@ -1,4 +1,5 @@
-// The names of a script's lines and the items that each wants, one row to a name; specs/Names.antt has the same rows as a list.
+// The names of a script's lines and the items that each wants, one row to a name. specs/Names.antt has the same rows as a list,
+// and says what the words behind a name are.
 ghost use mathlib.Core.Path.{_≡_};
 ghost use mathlib.Core.Bool.{false};
 ghost use lib.Dec.{ltb};

@@ -103,7 +103,17 @@ fn run_other(g: Gate, name: usize, i: Items, out: &mut [u8], at: usize) -> Playe
     }
 }
 
-// Runs a line whose items are right. `name` is the number of its row; each kind of lines counts from its own first.
+// How many rows each kind has: the calls of the phones and those of the bike, the queries with a plain answer and those with a
+// longer one.
+const PHONE_CALLS: usize = 13;
+
+const CAN_CALLS: usize = 18;
+
+const PLAIN_QUERIES: usize = 17;
+
+const LONG_QUERIES: usize = 9;
+
+// Runs a line whose items are right. `name` is the number of its row; each kind counts its own from 0.
 pub fn run(
     g: Gate,
     name: usize,
@@ -115,22 +125,22 @@ pub fn run(
 ) -> Played
     ensures { λ r. ⌜ turnOf r (now (out .exit)) ≡ ran (lineOf name i (lentBytes p (now (room .entry)))) g (page (now (out .entry)) at) ⌝ }
 {
-    if name < 13 {
+    if name < PHONE_CALLS {
         return put_outcome(calls::phone_call(g, name, i, p, room), out, at);
     }
-    let can = name - 13;
-    if can < 18 {
+    let can = name - PHONE_CALLS;
+    if can < CAN_CALLS {
         return put_outcome(calls::can_call(g, can, i, p, room), out, at);
     }
-    let plain = can - 18;
-    if plain < 17 {
+    let plain = can - CAN_CALLS;
+    if plain < PLAIN_QUERIES {
         let a = asks::plain_query(g, plain, i, p, room);
         return put_outcome(no_signals(g, a), out, at);
     }
-    let long = plain - 17;
-    if long < 9 {
+    let long = plain - PLAIN_QUERIES;
+    if long < LONG_QUERIES {
         let k = asks::put_long(g, long, i, p, room, out, at);
         return put_calm(g, out, k);
     }
-    run_other(g, long - 9, i, out, at)
+    run_other(g, long - LONG_QUERIES, i, out, at)
 }
