@@ -15,4 +15,4 @@ put-validated-spec =
     (λ c κs. tt)
     (λ c κs. tt)
     (λ c. search needs)
-    (λ c. rw (c .before .before .put-phones .ensures, c .before .before .before .before .before .before .put-fields .ensures)))
+    (λ c. rw (c .before .before .put-phones .ensures, c .before .before .before .before .before .before .put-fields .ensures, ← c .before .before .before .before .before .before .before .before .before .before .count .ensures)))
