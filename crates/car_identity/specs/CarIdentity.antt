@@ -35,8 +35,8 @@ unfoldable pub confirmFingerprint : Core → List ℕ → Said
 confirmFingerprint c fingerprint =
     checked c
     ((ltb 4096 (length fingerprint) refuses TooLarge) ∷  -- 23
-    (empty fingerprint refuses No) ∷
-    (not (c .policy .identity .confirmed) refuses No) ∷ [])
+    (empty fingerprint refuses No) ∷  -- no if empty
+    (not (c .policy .identity .confirmed) refuses No) ∷ [])  -- no if the platform is unconfirmed
     (policyChanged c Yes (withIdentity (c .policy) (identityOf (c .policy .identity) (c .policy .identity .confirmed) (record { known = true; digest = carDigest (c .policy .identity .platform) fingerprint .digest }))))
 
 -- ---- a host note: one item, no signal

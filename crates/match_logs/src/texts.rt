@@ -95,10 +95,10 @@ fn put_words(out: &mut [u8], answer: MatchAnswer) -> usize
     }
 }
 
-// Writes the line of an answer over `out`, and answers its length.
+// Writes the line of an answer over the front of `out`, and answers its length: all of it fits.
 pub fn put_answer(out: &mut [u8], answer: MatchAnswer) -> usize
     requires { ⌜ length (now out) ≡ 64 ⌝ }
-    ensures { λ r. ⌜ Laid 64 (page (now (out .exit)) r) (answerLine answer) ⌝ }
+    ensures { λ r. ⌜ (page (now (out .exit)) r ≡ text (10 ∷ []) (lay (words answer) (page (now (out .entry)) 0))) × Laid 64 (page (now (out .exit)) r) (answerLine answer) ⌝ }
 {
     let k = put_words(out, answer);
     lines::put_text(out, k, b"\n")

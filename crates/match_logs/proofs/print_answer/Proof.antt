@@ -16,10 +16,10 @@ put-answer-requires : tie.Need-put-answer-requires
 put-answer-requires c κs = refl
 
 array-share-prefix-out : tie.Need-array-share-prefix-out
-array-share-prefix-out c = let p = c .before .put-answer in let l = laid-inside _ _ _ (p .ensures) in omega (arith, p .ensures .room)
+array-share-prefix-out c = let p = c .before .put-answer in let l = laid-inside _ _ _ (p .ensures .1) in omega (arith, p .ensures .1 .room)
 
 slice-aggregate-write-all : tie.Need-slice-aggregate-write-all
-slice-aggregate-write-all c = let p = c .before .before .put-answer in let l = laid-inside _ _ _ (p .ensures) in sym (length-take-le (p .result) (p .last .0) (omega (arith, p .ensures .room)))
+slice-aggregate-write-all c = let p = c .before .before .put-answer in let l = laid-inside _ _ _ (p .ensures .1) in sym (length-take-le (p .result) (p .last .0) (omega (arith, p .ensures .1 .room)))
 
 write-all-requires : tie.Need-write-all-requires
 write-all-requires c κs = tt
