@@ -60,11 +60,16 @@ pub trait Item: Sized {
 trait Single: Sized {
     fn parse(text: &str) -> Option<Self>;
     fn show(&self) -> String;
+
+    /// The same of an item with this key, which may allow other forms.
+    fn parse_at(_key: &str, text: &str) -> Option<Self> {
+        Self::parse(text)
+    }
 }
 
 impl<T: Single> Item for T {
     fn read(items: &mut Items, key: &str) -> Result<Self, BadItems> {
-        T::parse(items.one(key)?).ok_or(BadItems)
+        T::parse_at(key, items.one(key)?).ok_or(BadItems)
     }
 
     fn write(&self, key: &str, out: &mut String) {
@@ -121,9 +126,22 @@ impl Single for bool {
 /// Any bytes.
 pub type Bytes = Vec<u8>;
 
+/// The keys whose bytes may also be an apostrophe and then the bytes as they are.
+pub const TEXT_KEYS: [&str; 4] = ["phone", "method", "code", "owner"];
+
 impl Single for Bytes {
     fn parse(text: &str) -> Option<Self> {
         from_hex(text)
+    }
+
+    fn parse_at(key: &str, text: &str) -> Option<Self> {
+        match text.strip_prefix('\'') {
+            // A character is a byte of the line.
+            Some(rest) if TEXT_KEYS.contains(&key) => {
+                rest.chars().map(|c| c.try_into().ok()).collect()
+            }
+            _ => Self::parse(text),
+        }
     }
 
     fn show(&self) -> String {
@@ -148,6 +166,14 @@ impl<T: Single> Single for Option<T> {
             Some(None)
         } else {
             T::parse(text).map(Some)
+        }
+    }
+
+    fn parse_at(key: &str, text: &str) -> Option<Self> {
+        if text == "none" {
+            Some(None)
+        } else {
+            T::parse_at(key, text).map(Some)
         }
     }
 
@@ -277,7 +303,7 @@ impl Single for Method {
             return None;
         };
         Some(Self {
-            id: Single::parse(id)?,
+            id: Single::parse_at("method", id)?,
             kind: MethodKind::parse(kind)?,
             needs_approval: Single::parse(approval)?,
         })

@@ -50,12 +50,13 @@ pub fn replay(script: impl BufRead, mut out: impl Write, options: &Options) -> R
     Ok(())
 }
 
-/// No call has a name or an item with bytes that are no text, so these may be read as any others that no call has.
+/// Each byte of a line is a character, whatever text the bytes are.
 fn read(line: &[u8]) -> Result<Option<Call>, LineError> {
     if line.len() > LONGEST_LINE {
         return Err(LineError::LineTooLong);
     }
-    parse(&String::from_utf8_lossy(line))
+    let line: String = line.iter().map(|&b| char::from(b)).collect();
+    parse(&line)
 }
 
 fn print_state(out: &mut impl Write, number: usize, gate: &Gate) -> io::Result<()> {

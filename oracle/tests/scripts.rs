@@ -18,10 +18,20 @@ fn lines_are_read_back() {
     let options = Options {
         counters: true,
         states: true,
+        texts: false,
     };
-    for line in script(3, 20_000, options) {
-        let call = parse(&line).expect("a call").expect("no comment");
-        assert_eq!(call.to_string(), line);
+    let with_texts = Options {
+        texts: true,
+        ..options
+    };
+    let lines = script(3, 20_000, options);
+    let others = script(3, 20_000, with_texts);
+    assert_ne!(lines, others);
+    assert_eq!(lines.len(), others.len());
+    for (line, other) in lines.iter().zip(&others) {
+        let call = parse(line).expect("a call").expect("no comment");
+        assert_eq!(&call.to_string(), line);
+        assert_eq!(parse(other), Ok(Some(call)));
     }
 }
 

@@ -2,21 +2,21 @@
 use mathlib.Core.Path.{_≡_, refl, ap, ap₂, sym, _∙_}
 use mathlib.Core.Bool.{Bool, true, false, cond}
 use mathlib.Core.List.{List, [], _∷_, _++_, append-nil, append-assoc}
-use Prim.Native.Nat.{ℕ, suc, _+_, _-_, _/_, _≤_}
+use Prim.Native.Nat.{ℕ, _+_, _-_, _≤_}
 use native.Mathlib.Nat.{add-zero}
 use native.Mathlib.Omega.{arith}
 use borrow.Author.Tests.{le-ltb}
-use lib.Dec.{eqb, ltb}
-use lib.ListN.{length, take, drop, length-append, length-drop, take-append-drop}
+use lib.Dec.{ltb}
+use lib.ListN.{length, take, drop, length-append, take-append-drop}
 use lib.Seq.{take-at, drop-at, drop-append-add, drop-drop}
 use Rattle.arrays.specs.Arrays.{put}
 use Rattle.arrays.proofs.Laws.{put-length}
-use Rattle.script.specs.Values.{theNumber, isHex, pairsOf, fitsIn, laidTo, layBytes, theBytes, layTheBytes}
+use Rattle.script.specs.Values.{theNumber, isBytes, asBytes, fitsIn, laidTo, layBytes, theBytes, layTheBytes}
 use Rattle.script.specs.Words.{part}
-use Rattle.script.specs.declared.Laid.{Laid}
 use Rattle.script.specs.declared.Laid.the-variants.{To, NoBytes}
 use Rattle.script.specs.declared.Number.the-variants.{Given}
-use Rattle.script.proofs.Laws.{number-most, pairs-length}
+use Rattle.script.specs.declared.Written.{Written}
+use Rattle.script.proofs.Laws.{number-most}
 use Rattle.items.specs.Bytes.{areBytes, bytesIn, lentAt}
 
 -- ---- numbers
@@ -31,27 +31,23 @@ pub put-none : (d : List ℕ) (at : ℕ) → put d at [] ≡ d
 unfolding put
 put-none d at = rw (append-nil, add-zero) (take-append-drop at d)
 
-laid-by : (v : List ℕ) (at size : ℕ) (t : Bool) → at + length (cond t (pairsOf v) []) ≤ size → cond (cond t (cond (ltb size (at + length v / 2)) false true) false) (To (at + length v / 2)) NoBytes ≡ cond t (To (at + length (cond t (pairsOf v) []))) NoBytes
-laid-by v at size true fits =
-    let e = pairs-length v in
-    rw (le-ltb size (at + length v / 2) (omega arith), e)
-laid-by v at size false fits = refl
+laid-by : (b : List ℕ) (at size : ℕ) (t : Bool) → at + length (cond t b []) ≤ size → cond (cond t (cond (ltb size (at + length b)) false true) false) (To (at + length b)) NoBytes ≡ cond t (To (at + length (cond t b []))) NoBytes
+laid-by b at size true fits = rw (le-ltb size (at + length b) fits)
+laid-by b at size false fits = refl
 
-pub laid-as : (vs : List (List ℕ)) (at size : ℕ) → at + length (bytesIn vs) ≤ size → theBytes vs at size ≡ cond (areBytes vs) (To (at + length (bytesIn vs))) NoBytes
+pub laid-as : (form : Written) (vs : List (List ℕ)) (at size : ℕ) → at + length (bytesIn form vs) ≤ size → theBytes form vs at size ≡ cond (areBytes form vs) (To (at + length (bytesIn form vs))) NoBytes
 unfolding laidTo fitsIn
-laid-as [] at size fits = refl
-laid-as (v ∷ vs) at size fits = laid-by v at size (isHex v) fits
+laid-as form [] at size fits = refl
+laid-as form (v ∷ vs) at size fits = laid-by (asBytes form v) at size (isBytes form v) fits
 
-lay-by : (v out : List ℕ) (at : ℕ) (t : Bool) → at + length (cond t (pairsOf v) []) ≤ length out → cond (cond t (cond (ltb (length out) (at + length v / 2)) false true) false) (put out at (pairsOf v)) out ≡ put out at (cond t (pairsOf v) [])
-lay-by v out at true fits =
-    let e = pairs-length v in
-    rw (le-ltb (length out) (at + length v / 2) (omega arith))
-lay-by v out at false fits = sym (put-none out at)
+lay-by : (b out : List ℕ) (at : ℕ) (t : Bool) → at + length (cond t b []) ≤ length out → cond (cond t (cond (ltb (length out) (at + length b)) false true) false) (put out at b) out ≡ put out at (cond t b [])
+lay-by b out at true fits = rw (le-ltb (length out) (at + length b) fits)
+lay-by b out at false fits = sym (put-none out at)
 
-pub lay-as : (vs : List (List ℕ)) (at : ℕ) (out : List ℕ) → at + length (bytesIn vs) ≤ length out → layTheBytes vs at out ≡ put out at (bytesIn vs)
+pub lay-as : (form : Written) (vs : List (List ℕ)) (at : ℕ) (out : List ℕ) → at + length (bytesIn form vs) ≤ length out → layTheBytes form vs at out ≡ put out at (bytesIn form vs)
 unfolding layBytes fitsIn
-lay-as [] at out fits = sym (put-none out at)
-lay-as (v ∷ vs) at out fits = lay-by v out at (isHex v) fits
+lay-as form [] at out fits = sym (put-none out at)
+lay-as form (v ∷ vs) at out fits = lay-by (asBytes form v) out at (isBytes form v) fits
 
 pub took : (t : Bool) (m e : ℕ) → cond t (To m) NoBytes ≡ To e → (t ≡ true) × (m ≡ e)
 took true m e p = (refl, cc)
@@ -61,13 +57,13 @@ pub took-none : (t : Bool) (m : ℕ) → cond t (To m) NoBytes ≡ NoBytes → t
 took-none true m p = cc
 took-none false m p = refl
 
-none-by : (v : List ℕ) (t : Bool) → t ≡ false → cond t (pairsOf v) [] ≡ []
-none-by v true p = cc
-none-by v false p = refl
+none-by : (b : List ℕ) (t : Bool) → t ≡ false → cond t b [] ≡ []
+none-by b true p = cc
+none-by b false p = refl
 
-pub no-bytes : (vs : List (List ℕ)) → areBytes vs ≡ false → bytesIn vs ≡ []
-no-bytes [] p = refl
-no-bytes (v ∷ vs) p = none-by v (isHex v) p
+pub no-bytes : (form : Written) (vs : List (List ℕ)) → areBytes form vs ≡ false → bytesIn form vs ≡ []
+no-bytes form [] p = refl
+no-bytes form (v ∷ vs) p = none-by (asBytes form v) (isBytes form v) p
 
 -- ---- one value behind the other
 

@@ -1,21 +1,23 @@
--- The byte values of a line together are no longer than half of it: each is pairs of digits of an item, and no two of them are
--- of the same item, since their keys differ.
-use mathlib.Core.Path.{_≡_, refl, ap, sym, _∙_}
+-- The byte values of a line together are no longer than the line: each is no longer than the value of an item, and no two of them
+-- are of the same item, since their keys differ.
+use mathlib.Core.Path.{_≡_, refl, ap, sym}
 use mathlib.Core.Bool.{Bool, true, false, cond, false≢true}
-use mathlib.Core.List.{List, [], _∷_, _++_}
-use Prim.Native.Nat.{ℕ, zero, suc, _+_, _-_, _*_, _/_, _≤_, _<_}
+use mathlib.Core.List.{List, [], _∷_}
+use Prim.Native.Nat.{ℕ, zero, suc, _+_, _≤_, _<_}
 use native.Mathlib.Omega.{arith}
 use borrow.Author.Tests.{eq-eqb, eqb-true, ltb-true}
 use lib.Dec.{eqb, ltb}
-use lib.ListN.{length, take, drop, getD, length-drop, length-append}
+use lib.ListN.{length, take, drop, getD, length-drop}
 use Rattle.arrays.specs.Arrays.{sameBytes}
-use Rattle.arrays.proofs.Laws.{same-refl, same-bytes-is}
+use Rattle.arrays.proofs.Laws.{same-bytes-is}
 use Rattle.ascii.specs.Ascii.{ascii}
 use Rattle.script.specs.Places.{hasKey, valuesOf, only, itemOf}
-use Rattle.script.specs.Values.{isHex, pairsOf}
+use Rattle.script.specs.Values.{isText, isBytes, asBytes, pairsOf}
 use Rattle.script.specs.Words.{before, split, onto, afterFirst, itemsOf}
+use Rattle.script.specs.declared.Written.{Written}
+use Rattle.script.specs.declared.Written.the-variants.{Hex, HexOrText}
 use Rattle.script.proofs.Laws.{pairs-length}
-use Rattle.items.specs.Bytes.{bytesIn, bytesAt, bytesOf, joined}
+use Rattle.items.specs.Bytes.{bytesIn, bytesAt}
 
 -- ---- words of a line
 
@@ -45,19 +47,24 @@ items-lengths line = omega (arith, after-lengths (split 32 line), split-lengths 
 
 -- ---- the bytes of one key
 
-bytes-by : (v : List ℕ) (t : Bool) → 2 * length (cond t (pairsOf v) []) ≤ length v
-bytes-by v true = omega (arith, pairs-length v)
-bytes-by v false = omega arith
+said-by : (v : List ℕ) (t : Bool) → length (cond t (drop 1 v) (pairsOf v)) ≤ length v
+said-by v true = omega (arith, length-drop 1 v)
+said-by v false = omega (arith, pairs-length v)
 
-only-bytes : (vs : List (List ℕ)) → 2 * length (bytesIn (only vs)) ≤ lengths vs
+bytes-by : (form : Written) (v : List ℕ) (t : Bool) → length (cond t (asBytes form v) []) ≤ length v
+unfolding asBytes
+bytes-by form v true = said-by v (isText form v)
+bytes-by form v false = omega arith
+
+only-bytes : (form : Written) (vs : List (List ℕ)) → length (bytesIn form (only vs)) ≤ lengths vs
 unfolding lengths
-only-bytes [] = omega arith
-only-bytes (v ∷ []) = omega (arith, bytes-by v (isHex v))
-only-bytes (v ∷ w ∷ vs) = omega arith
+only-bytes form [] = omega arith
+only-bytes form (v ∷ []) = omega (arith, bytes-by form v (isBytes form v))
+only-bytes form (v ∷ w ∷ vs) = omega arith
 
-bytes-length : (key line : List ℕ) → 2 * length (bytesAt key line) ≤ lengths (valuesOf key (itemsOf line))
+bytes-length : (form : Written) (key line : List ℕ) → length (bytesAt form key line) ≤ lengths (valuesOf key (itemsOf line))
 unfolding bytesAt itemOf
-bytes-length key line = only-bytes (valuesOf key (itemsOf line))
+bytes-length form key line = only-bytes form (valuesOf key (itemsOf line))
 
 -- ---- an item has one key
 
@@ -169,19 +176,18 @@ keys-apart : Apart byteKeys
 unfolding Apart Plain byteKeys among before sameBytes
 keys-apart = (refl, refl, (refl, refl, (refl, refl, (refl, refl, (refl, refl, (refl, refl, (refl, refl, tt)))))))
 
-module _ (line : List ℕ) where
-  pub sizes : 2 * (length (bytesAt (ascii "phone") line) + length (bytesAt (ascii "method") line) + length (bytesAt (ascii "random") line) + length (bytesAt (ascii "code") line) + length (bytesAt (ascii "record") line) + length (bytesAt (ascii "fingerprint") line) + length (bytesAt (ascii "owner") line)) ≤ length line
-  unfolding together byteKeys
-  sizes =
-      omega (
-        arith,
-        items-lengths line,
-        in-words byteKeys (itemsOf line) keys-apart,
-        bytes-length (ascii "phone") line,
-        bytes-length (ascii "method") line,
-        bytes-length (ascii "random") line,
-        bytes-length (ascii "code") line,
-        bytes-length (ascii "record") line,
-        bytes-length (ascii "fingerprint") line,
-        bytes-length (ascii "owner") line,
-      )
+pub sizes : (line : List ℕ) → length (bytesAt HexOrText (ascii "phone") line) + length (bytesAt HexOrText (ascii "method") line) + length (bytesAt Hex (ascii "random") line) + length (bytesAt HexOrText (ascii "code") line) + length (bytesAt Hex (ascii "record") line) + length (bytesAt Hex (ascii "fingerprint") line) + length (bytesAt HexOrText (ascii "owner") line) ≤ length line
+unfolding together byteKeys
+sizes line =
+    omega (
+      arith,
+      items-lengths line,
+      in-words byteKeys (itemsOf line) keys-apart,
+      bytes-length HexOrText (ascii "phone") line,
+      bytes-length HexOrText (ascii "method") line,
+      bytes-length Hex (ascii "random") line,
+      bytes-length HexOrText (ascii "code") line,
+      bytes-length Hex (ascii "record") line,
+      bytes-length Hex (ascii "fingerprint") line,
+      bytes-length HexOrText (ascii "owner") line,
+    )

@@ -1,6 +1,6 @@
 -- Byte values: what the items say, and where they lie in lent memory.
 use mathlib.Core.Path.{_≡_}
-use mathlib.Core.Bool.{Bool, true, false, cond}
+use mathlib.Core.Bool.{Bool, false, cond}
 use mathlib.Core.List.{List, [], _∷_, _++_}
 use Prim.Native.Nat.{ℕ, _+_}
 use lib.Dec.{ltb}
@@ -8,8 +8,10 @@ use lib.ListN.{length}
 use Rattle.arrays.specs.Arrays.{put}
 use Rattle.ascii.specs.Ascii.{ascii}
 use Rattle.script.specs.Places.{itemOf}
-use Rattle.script.specs.Values.{isHex, pairsOf}
+use Rattle.script.specs.Values.{isBytes, asBytes}
 use Rattle.script.specs.Words.{part}
+use Rattle.script.specs.declared.Written.{Written}
+use Rattle.script.specs.declared.Written.the-variants.{Hex, HexOrText}
 use Rattle.items.specs.declared.Ends.{Ends}
 use Rattle.items.specs.declared.Has.{Has}
 use Rattle.items.specs.declared.LaidValue.{LaidValue}
@@ -17,30 +19,31 @@ use Rattle.items.specs.declared.LaidValues.{LaidValues}
 
 -- ---- what the items say
 
-abbrev pub areBytes : List (List ℕ) → Bool
-areBytes [] = false
-areBytes (v ∷ vs) = isHex v
+abbrev pub areBytes : Written → List (List ℕ) → Bool
+areBytes form [] = false
+areBytes form (v ∷ vs) = isBytes form v
 
-abbrev pub bytesIn : List (List ℕ) → List ℕ
-bytesIn [] = []
-bytesIn (v ∷ vs) = cond (isHex v) (pairsOf v) []
+abbrev pub bytesIn : Written → List (List ℕ) → List ℕ
+bytesIn form [] = []
+bytesIn form (v ∷ vs) = cond (isBytes form v) (asBytes form v) []
 
 -- whether the only item with this key is bytes, and the bytes
-unfoldable pub hasBytes : List ℕ → List ℕ → Bool
-hasBytes key line = areBytes (itemOf key line)
+unfoldable pub hasBytes : Written → List ℕ → List ℕ → Bool
+hasBytes form key line = areBytes form (itemOf key line)
 
-unfoldable pub bytesAt : List ℕ → List ℕ → List ℕ
-bytesAt key line = bytesIn (itemOf key line)
+unfoldable pub bytesAt : Written → List ℕ → List ℕ → List ℕ
+bytesAt form key line = bytesIn form (itemOf key line)
 
+-- a phone's id, which `owner` has too, a method's id and a typed code may be text
 unfoldable pub hasAt : List ℕ → Has
 hasAt line = record {
-  phone = hasBytes (ascii "phone") line;
-  method = hasBytes (ascii "method") line;
-  random = hasBytes (ascii "random") line;
-  code = hasBytes (ascii "code") line;
-  stored = hasBytes (ascii "record") line;
-  fingerprint = hasBytes (ascii "fingerprint") line;
-  owner = hasBytes (ascii "owner") line;
+  phone = hasBytes HexOrText (ascii "phone") line;
+  method = hasBytes HexOrText (ascii "method") line;
+  random = hasBytes Hex (ascii "random") line;
+  code = hasBytes HexOrText (ascii "code") line;
+  stored = hasBytes Hex (ascii "record") line;
+  fingerprint = hasBytes Hex (ascii "fingerprint") line;
+  owner = hasBytes HexOrText (ascii "owner") line;
 }
 
 -- the byte values of a line
@@ -55,13 +58,13 @@ pub record Bytes : Type 0 where
 
 unfoldable pub bytesOf : List ℕ → Bytes
 bytesOf line = record {
-  phone = bytesAt (ascii "phone") line;
-  method = bytesAt (ascii "method") line;
-  random = bytesAt (ascii "random") line;
-  code = bytesAt (ascii "code") line;
-  stored = bytesAt (ascii "record") line;
-  fingerprint = bytesAt (ascii "fingerprint") line;
-  owner = bytesAt (ascii "owner") line;
+  phone = bytesAt HexOrText (ascii "phone") line;
+  method = bytesAt HexOrText (ascii "method") line;
+  random = bytesAt Hex (ascii "random") line;
+  code = bytesAt HexOrText (ascii "code") line;
+  stored = bytesAt Hex (ascii "record") line;
+  fingerprint = bytesAt Hex (ascii "fingerprint") line;
+  owner = bytesAt HexOrText (ascii "owner") line;
 }
 
 -- ---- where they lie
@@ -98,10 +101,10 @@ endsOf b = record {
 }
 
 -- one value laid down in memory from a place on
-pub record LaidAt (key line before after : List ℕ) (at : ℕ) (r : LaidValue) : Type 0 where
-  pub has : r .ok ≡ hasBytes key line
-  pub end : r .end ≡ at + length (bytesAt key line)
-  pub memory : after ≡ put before at (bytesAt key line)
+pub record LaidAt (form : Written) (key line before after : List ℕ) (at : ℕ) (r : LaidValue) : Type 0 where
+  pub has : r .ok ≡ hasBytes form key line
+  pub end : r .end ≡ at + length (bytesAt form key line)
+  pub memory : after ≡ put before at (bytesAt form key line)
 
 -- all of them, from the start of the memory on; `bytes` follows from where they end and from the memory
 pub record LaidAll (line before after : List ℕ) (r : LaidValues) : Type 0 where

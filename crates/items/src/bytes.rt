@@ -4,8 +4,9 @@ use crate::Has;
 use crate::LaidValue;
 use crate::LaidValues;
 use script::Laid;
+use script::Written;
 ghost use mathlib.Core.Path.{_≡_};
-ghost use Prim.Native.Nat.{_+_, _*_, _≤_};
+ghost use Prim.Native.Nat.{_+_, _≤_};
 ghost use lib.ListN.{length};
 ghost use Rattle.items.specs.Bytes.{bytesAt, lentAt, LaidAt, LaidAll};
 
@@ -23,29 +24,29 @@ pub fn lent(room: &[u8], a: usize, e: usize) -> &[u8]
 }
 
 // Lays the bytes of the only item with this key down from `at` on.
-fn lay(line: &[u8], key: &[u8], room: &mut [u8], at: usize) -> LaidValue
-    requires { ⌜ at + length (bytesAt (now key) (now line)) ≤ length (now room) ⌝ }
-    ensures { λ r. ⌜ LaidAt (now (key .entry)) (now (line .entry)) (now (room .entry)) (now (room .exit)) at r ⌝ }
+fn lay(line: &[u8], key: &[u8], form: Written, room: &mut [u8], at: usize) -> LaidValue
+    requires { ⌜ at + length (bytesAt form (now key) (now line)) ≤ length (now room) ⌝ }
+    ensures { λ r. ⌜ LaidAt form (now (key .entry)) (now (line .entry)) (now (room .entry)) (now (room .exit)) at r ⌝ }
 {
-    let laid = script::values::bytes_of(line, key, room, at);
+    let laid = script::values::bytes_of(line, key, form, room, at);
     match laid {
         Laid::To(end) => LaidValue { ok: true, end },
         Laid::NoBytes => LaidValue { ok: false, end: at },
     }
 }
 
-// All byte values of a line: together they have at most half its length, since each byte is two digits of an item of its own.
+// All byte values of a line: together they are no longer than it, since each is a part of an item of its own.
 pub fn lay_all(line: &[u8], room: &mut [u8]) -> LaidValues
-    requires { ⌜ length (now line) ≤ 2 * length (now room) ⌝ }
+    requires { ⌜ length (now line) ≤ length (now room) ⌝ }
     ensures { λ r. ⌜ LaidAll (now (line .entry)) (now (room .entry)) (now (room .exit)) r ⌝ }
 {
-    let a = lay(line, b"phone", room, 0);
-    let b = lay(line, b"method", room, a.end);
-    let c = lay(line, b"random", room, b.end);
-    let d = lay(line, b"code", room, c.end);
-    let e = lay(line, b"record", room, d.end);
-    let f = lay(line, b"fingerprint", room, e.end);
-    let g = lay(line, b"owner", room, f.end);
+    let a = lay(line, b"phone", Written::HexOrText, room, 0);
+    let b = lay(line, b"method", Written::HexOrText, room, a.end);
+    let c = lay(line, b"random", Written::Hex, room, b.end);
+    let d = lay(line, b"code", Written::HexOrText, room, c.end);
+    let e = lay(line, b"record", Written::Hex, room, d.end);
+    let f = lay(line, b"fingerprint", Written::Hex, room, e.end);
+    let g = lay(line, b"owner", Written::HexOrText, room, f.end);
     let has = Has {
         phone: a.ok,
         method: b.ok,

@@ -10,8 +10,7 @@ use script::CarItem;
 use script::Methods;
 use script::ProbeFrames;
 use state::Settings;
-ghost use mathlib.Core.Path.{_≡_};
-ghost use Prim.Native.Nat.{_*_, _≤_};
+ghost use Prim.Native.Nat.{_≤_};
 ghost use lib.ListN.{length};
 ghost use Rattle.items.specs.Items.{Reads};
 
@@ -123,9 +122,9 @@ pub struct ItemsRead {
     pub ends: Ends,
 }
 
-// Reads a line; `room` has room for half as many bytes as the line, and so for all its byte values together.
+// Reads a line; `room` has room for as many bytes as the line, and so for all its byte values together.
 pub fn read(line: &[u8], room: &mut [u8]) -> ItemsRead
-    requires { ⌜ length (now line) ≤ 2 * length (now room) ⌝ }
+    requires { ⌜ length (now line) ≤ length (now room) ⌝ }
     ensures { λ r. ⌜ Reads (now (line .entry)) (now (room .entry)) (now (room .exit)) r ⌝ }
 {
     let laid = bytes::lay_all(line, room);

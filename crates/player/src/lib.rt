@@ -6,7 +6,7 @@ use state::Gate;
 use state::Settings;
 use turns::Played;
 ghost use mathlib.Core.Path.{_≡_};
-ghost use Prim.Native.Nat.{_*_, _≤_};
+ghost use Prim.Native.Nat.{_≤_};
 ghost use lib.ListN.{length};
 ghost use Rattle.arrays.specs.Arrays.{put};
 ghost use Rattle.items.specs.Bytes.{lentBytes, bytesOf, joined};
@@ -64,7 +64,7 @@ fn play_error(g: Gate, number: u64, name: usize, out: &mut [u8]) -> Played
 }
 
 fn play_line(g: Gate, number: u64, line: &[u8], room: &mut [u8], out: &mut [u8]) -> Played
-    requires { ⌜ length (now line) ≤ 2 * length (now room) ⌝ }
+    requires { ⌜ length (now line) ≤ length (now room) ⌝ }
     ensures { λ r. ⌜ (turnOf r (now (out .exit)) ≡ played g number (now (line .entry)) (page (now (out .entry)) 0)) × (now (room .exit) ≡ put (now (room .entry)) 0 (joined (bytesOf (now (line .entry))))) ⌝ }
 {
     let e = script::name_end(line);
@@ -87,7 +87,7 @@ pub fn play(
     room: &mut [u8],
     out: &mut [u8],
 ) -> Played
-    requires { ⌜ length (now line) ≤ 2 * length (now room) ⌝ }
+    requires { ⌜ length (now line) ≤ length (now room) ⌝ }
     ensures { λ r. ⌜ (turnOf r (now (out .exit)) ≡ withState states number (played g number (now (line .entry)) (page (now (out .entry)) 0))) × (now (room .exit) ≡ put (now (room .entry)) 0 (joined (bytesOf (now (line .entry))))) ⌝ }
 {
     let mut r = play_line(g, number, line, room, out);

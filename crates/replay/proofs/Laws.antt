@@ -2,7 +2,7 @@
 use mathlib.Core.Path.{_≡_, refl, ap, sym, _∙_}
 use mathlib.Core.Bool.{Bool, true, false, cond}
 use mathlib.Core.List.{List, [], _∷_, _++_, append-nil}
-use Prim.Native.Nat.{ℕ, suc, _+_, _-_, _*_, _≤_, _<_}
+use Prim.Native.Nat.{ℕ, suc, _+_, _-_, _≤_, _<_}
 use native.Mathlib.Numerals.{add-one}
 use native.Mathlib.Omega.{arith}
 use borrow.Author.Tests.{lt-ltb, le-ltb, ltb-true, ltb-false}
@@ -34,7 +34,7 @@ pub first-length : (n : ℕ) (s : List ℕ) → n ≤ length s → n ≡ length 
 first-length n s h = sym (length-take-le n s h)
 
 -- there is room for them where there is room for all
-pub first-room : (n room : ℕ) (s : List ℕ) → n ≤ length s → length s ≤ 2 * room → length (take n s) ≤ 2 * room
+pub first-room : (n room : ℕ) (s : List ℕ) → n ≤ length s → length s ≤ room → length (take n s) ≤ room
 first-room n room s h k = omega (arith, length-take-le n s h)
 
 -- ---- the gate after a line

@@ -7,7 +7,7 @@ use state::Gate;
 use turns::Played;
 ghost use mathlib.Core.Bool.{true};
 ghost use mathlib.Core.Path.{_≡_};
-ghost use Prim.Native.Nat.{_*_, _≤_};
+ghost use Prim.Native.Nat.{_≤_};
 ghost use lib.ListN.{length};
 ghost use Rattle.lines.specs.Page.{page};
 ghost use Rattle.turns.specs.Turns.{turnOf};
@@ -59,7 +59,7 @@ fn print(out: &[u8], at: usize) -> bool
 
 // Lays down what a line gives; one that is passed over gives nothing. What is left in `room` is open: nothing reads it again.
 fn give_line(p: Replay, line: &[u8], states: bool, room: &mut [u8], out: &mut [u8]) -> Played
-    requires { ⌜ length (now line) ≤ 2 * length (now room) ⌝ }
+    requires { ⌜ length (now line) ≤ length (now room) ⌝ }
     ensures { λ r. ⌜ turnOf r (now (out .exit)) ≡ lineGives states (p .gate) (p .number) (lineIn (now (line .entry)) (p .len)) (page (now (out .entry)) 0) ⌝ }
 {
     let n = p.len;
@@ -77,7 +77,7 @@ fn give_line(p: Replay, line: &[u8], states: bool, room: &mut [u8], out: &mut [u
 // Plays the line that has ended; the next one has no byte yet. Open is whether it goes on, as `print` says, and what is left
 // in `room` and `out`, which nothing reads again.
 fn finish_line(p: Replay, line: &[u8], states: bool, room: &mut [u8], out: &mut [u8]) -> Replay
-    requires { ⌜ length (now line) ≤ 2 * length (now room) ⌝ }
+    requires { ⌜ length (now line) ≤ length (now room) ⌝ }
     ensures { λ r. ⌜ r ≡ nextLine (p .number) (gateAfter (p .gate) (p .number) (lineIn (now (line .entry)) (p .len))) (r .going) ⌝ }
 {
     let r = give_line(p, line, states, room, out);
@@ -100,7 +100,7 @@ fn read_piece(
     room: &mut [u8],
     out: &mut [u8],
 ) -> Replay
-    requires { ⌜ length (now line) ≤ 2 * length (now room) ⌝ }
+    requires { ⌜ length (now line) ≤ length (now room) ⌝ }
     ensures { λ r. ⌜ (r .going ≡ true → readingOf r (now (line .exit)) ≡ read (length (now (line .entry))) (now (piece .entry)) (readingOf p (now (line .entry)))) ⌝ }
 {
     let mut q = p;
@@ -124,7 +124,7 @@ fn read_piece(
 // Reads a piece of the script. At its end the last line is played, and then, or if reading fails, it does not go on. Which
 // bytes the piece has is open, and if it does not go on, what is left.
 fn turn(p: Replay, line: &mut [u8], states: bool, room: &mut [u8], out: &mut [u8]) -> Replay
-    requires { ⌜ length (now line) ≤ 2 * length (now room) ⌝ }
+    requires { ⌜ length (now line) ≤ length (now room) ⌝ }
     ensures { λ r. ⌜ (r .going ≡ true → ReadOn (length (now (line .entry))) (readingOf p (now (line .entry))) (readingOf r (now (line .exit)))) ⌝ }
 {
     let mut piece = io::buffer();
@@ -144,7 +144,7 @@ fn turn(p: Replay, line: &mut [u8], states: bool, room: &mut [u8], out: &mut [u8
 }
 
 fn run(line: &mut [u8], room: &mut [u8], out: &mut [u8])
-    requires { ⌜ length (now line) ≤ 2 * length (now room) ⌝ }
+    requires { ⌜ length (now line) ≤ length (now room) ⌝ }
 {
     let states = wants_states();
     let first = player::first_gate();
@@ -167,7 +167,7 @@ fn run(line: &mut [u8], room: &mut [u8], out: &mut [u8])
 
 fn main() {
     let mut line = [0u8; 16384];
-    let mut room = [0u8; 8192];
+    let mut room = [0u8; 16384];
     let mut out = [0u8; 16384];
     run(&mut line, &mut room, &mut out);
 }

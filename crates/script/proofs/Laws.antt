@@ -9,7 +9,7 @@ use native.Mathlib.Omega.{arith}
 use borrow.Author.Tests.{eq-eqb, eqb-true, ltb-true, ltb-false}
 use lib.Dec.{eqb, ltb, leb}
 use lib.ListN.{length, take, drop, getD, replicate, drop-of-length-le, length-drop}
-use lib.Seq.{drop-cons, drop-drop, getD-drop, length-take-le, take-nil}
+use lib.Seq.{drop-cons, drop-drop, getD-drop, length-take-le, take-length, take-nil}
 use Rattle.arrays.specs.Arrays.{padded, put}
 use Rattle.arrays.proofs.Laws.{put-padded}
 use Rattle.phones.specs.Phones.{idOf}
@@ -17,8 +17,10 @@ use Rattle.phones.specs.declared.ShortId.{ShortId}
 use Rattle.script.specs.Lists.{notThree, three, threeOf}
 use Rattle.script.specs.declared.Number.{Number}
 use Rattle.script.specs.declared.Number.the-variants.{Given, NoNumber}
+use Rattle.script.specs.declared.Written.{Written}
+use Rattle.script.specs.declared.Written.the-variants.{Hex, HexOrText}
 use Rattle.script.specs.Places.{hasKey, valuesOf}
-use Rattle.script.specs.Values.{digitOf, numberFrom, numberIn, allDigits, isHex, pairsOf}
+use Rattle.script.specs.Values.{digitOf, numberFrom, numberIn, allDigits, isHex, pairsOf, isText, isBytes, asBytes}
 use Rattle.script.specs.Words.{before, split, afterFirst, onto, itemsOf, part}
 
 -- ---- tests
@@ -242,6 +244,33 @@ pairs-at [] i h = absurd (omega arith)
 pairs-at (a ∷ []) i h = absurd (omega arith)
 pairs-at (a ∷ b ∷ s) zero h = refl
 pairs-at (a ∷ b ∷ s) (suc i) h = rw (three-more i, two-more i) (pairs-at s i (omega arith))
+
+-- ---- text
+
+pub empty-text : (form : Written) (s : List ℕ) → length s ≡ 0 → false ≡ isText form s
+empty-text Hex s h = refl
+empty-text HexOrText [] h = refl
+empty-text HexOrText (x ∷ xs) h = absurd (omega arith)
+
+pub text-first : (s : List ℕ) → eqb (getD s 0 0) 39 ≡ isText HexOrText s
+text-first [] = refl
+text-first (x ∷ xs) = refl
+
+pub text-long : (form : Written) (s : List ℕ) → isText form s ≡ true → 1 ≤ length s
+text-long Hex s e = never e
+text-long HexOrText [] e = never e
+text-long HexOrText (x ∷ xs) e = omega arith
+
+pub text-part : (s : List ℕ) → part 1 (length s) s ≡ drop 1 s
+text-part s = ap (λ (n : ℕ). take n (drop 1 s)) (sym (length-drop 1 s)) ∙ take-length (drop 1 s)
+
+pub text-bytes : (form : Written) (s : List ℕ) → isText form s ≡ true → asBytes form s ≡ drop 1 s
+unfolding asBytes
+text-bytes form s e = rw e
+
+pub hex-bytes : (form : Written) (s : List ℕ) → isText form s ≡ false → (asBytes form s ≡ pairsOf s) × (isBytes form s ≡ isHex s)
+unfolding asBytes isBytes
+hex-bytes form s e = (rw e, rw e)
 
 -- ---- the test before a digit is taken
 

@@ -2,7 +2,7 @@
 use mathlib.Core.Path.{_≡_}
 use mathlib.Core.Bool.{true, false, cond}
 use mathlib.Core.List.{List, [], _∷_}
-use Prim.Native.Nat.{ℕ, _+_, _/_, _<_}
+use Prim.Native.Nat.{ℕ, _+_, _<_}
 use lib.Dec.{ltb}
 use lib.ListN.{length, take, set, replicate}
 use Rattle.arrays.specs.Arrays.{sameBytes}
@@ -12,7 +12,7 @@ use Rattle.phones.specs.declared.ShortId.{ShortId}
 use Rattle.state.specs.declared.Kind.{Kind}
 use Rattle.state.specs.declared.Kind.the-variants.{CodeEntry, InCarAction}
 use Rattle.ascii.specs.Ascii.{ascii}
-use Rattle.script.specs.Values.{isHex, pairsOf, flagIn, idIn, dataIn}
+use Rattle.script.specs.Values.{isBytes, asBytes, flagIn, idIn, dataIn}
 use Rattle.script.specs.Words.{split, part}
 use Rattle.script.specs.declared.CanId.{CanId}
 use Rattle.script.specs.declared.CanId.the-variants.{Is, NoId}
@@ -27,6 +27,7 @@ use Rattle.script.specs.declared.MethodItem.{MethodItem}
 use Rattle.script.specs.declared.Methods.{Methods}
 use Rattle.script.specs.declared.ProbeFrames.{ProbeFrames}
 use Rattle.script.specs.declared.Slashes.{Slashes}
+use Rattle.script.specs.declared.Written.the-variants.{HexOrText}
 
 -- ---- three parts
 
@@ -56,11 +57,13 @@ pub record Cut (v : List ℕ) (r : Slashes) : Type 0 where
 
 -- ---- methods
 
--- the bytes of an id; those above 32 are not kept
+-- an id of at most 32 bytes; of a longer one the length is kept
+abbrev pub shortId : List ℕ → ShortId
+shortId b = cond (ltb 32 (length b)) (record { bytes = replicate 32 0; len = length b }) (idOf b)
+
 unfoldable pub methodId : List ℕ → IdItem
 methodId s =
-    cond (isHex s)
-    (cond (ltb 32 (length s / 2)) (record { ok = true; id = record { bytes = replicate 32 0; len = length s / 2 } }) (record { ok = true; id = idOf (pairsOf s) }))
+    cond (isBytes HexOrText s) (record { ok = true; id = shortId (asBytes HexOrText s) })
     (record { ok = false; id = record { bytes = replicate 32 0; len = 0 } })
 
 unfoldable pub kindIn : List ℕ → KindItem

@@ -1,9 +1,9 @@
 -- What the value of an item says. A value that may be missing is a list of one or none.
 use mathlib.Core.Bool.{Bool, true, false, cond}
 use mathlib.Core.List.{List, [], _∷_}
-use Prim.Native.Nat.{ℕ, _+_, _*_, _/_, _%_}
+use Prim.Native.Nat.{ℕ, _+_, _*_, _%_}
 use lib.Dec.{eqb, ltb, leb}
-use lib.ListN.{length, replicate}
+use lib.ListN.{length, drop, replicate}
 use Rattle.arrays.specs.Arrays.{put, sameBytes}
 use Rattle.frames.specs.declared.Id.the-variants.{Standard, Extended}
 use Rattle.hex.specs.Hex.{valueOf}
@@ -20,6 +20,8 @@ use Rattle.script.specs.declared.Laid.{Laid}
 use Rattle.script.specs.declared.Laid.the-variants.{To, NoBytes}
 use Rattle.script.specs.declared.Number.{Number}
 use Rattle.script.specs.declared.Number.the-variants.{Given, NoNumber}
+use Rattle.script.specs.declared.Written.{Written}
+use Rattle.script.specs.declared.Written.the-variants.{Hex, HexOrText}
 
 -- ---- numbers
 
@@ -57,17 +59,31 @@ pairsOf [] = []
 pairsOf (a ∷ []) = []
 pairsOf (a ∷ b ∷ s) = (digitOf a * 16 + digitOf b) ∷ pairsOf s
 
+-- where a text may stand: an apostrophe (39), and then the bytes as they are
+abbrev pub isText : Written → List ℕ → Bool
+isText Hex s = false
+isText HexOrText [] = false
+isText HexOrText (b ∷ bs) = eqb b 39
+
+-- such a text, or hexadecimal digits in pairs
+unfoldable pub isBytes : Written → List ℕ → Bool
+isBytes form s = cond (isText form s) true (isHex s)
+
+-- the bytes that they are
+unfoldable pub asBytes : Written → List ℕ → List ℕ
+asBytes form s = cond (isText form s) (drop 1 s) (pairsOf s)
+
 -- whether s is bytes that fit from `at` on into memory of this length
-unfoldable pub fitsIn : List ℕ → ℕ → ℕ → Bool
-fitsIn s at room = cond (isHex s) (cond (ltb room (at + length s / 2)) false true) false
+unfoldable pub fitsIn : Written → List ℕ → ℕ → ℕ → Bool
+fitsIn form s at room = cond (isBytes form s) (cond (ltb room (at + length (asBytes form s))) false true) false
 
 -- the place after the bytes
-unfoldable pub laidTo : List ℕ → ℕ → ℕ → Laid
-laidTo s at room = cond (fitsIn s at room) (To (at + length s / 2)) NoBytes
+unfoldable pub laidTo : Written → List ℕ → ℕ → ℕ → Laid
+laidTo form s at room = cond (fitsIn form s at room) (To (at + length (asBytes form s))) NoBytes
 
 -- the memory with the bytes laid down in it
-unfoldable pub layBytes : List ℕ → ℕ → List ℕ → List ℕ
-layBytes s at out = cond (fitsIn s at (length out)) (put out at (pairsOf s)) out
+unfoldable pub layBytes : Written → List ℕ → ℕ → List ℕ → List ℕ
+layBytes form s at out = cond (fitsIn form s at (length out)) (put out at (asBytes form s)) out
 
 -- exactly 8 bytes
 unfoldable pub dataIn : List ℕ → Data
@@ -100,13 +116,13 @@ abbrev pub theNumber : ℕ → List (List ℕ) → Number
 theNumber most [] = NoNumber
 theNumber most (v ∷ vs) = numberIn 10 most v
 
-abbrev pub theBytes : List (List ℕ) → ℕ → ℕ → Laid
-theBytes [] at room = NoBytes
-theBytes (v ∷ vs) at room = laidTo v at room
+abbrev pub theBytes : Written → List (List ℕ) → ℕ → ℕ → Laid
+theBytes form [] at room = NoBytes
+theBytes form (v ∷ vs) at room = laidTo form v at room
 
-abbrev pub layTheBytes : List (List ℕ) → ℕ → List ℕ → List ℕ
-layTheBytes [] at out = out
-layTheBytes (v ∷ vs) at out = layBytes v at out
+abbrev pub layTheBytes : Written → List (List ℕ) → ℕ → List ℕ → List ℕ
+layTheBytes form [] at out = out
+layTheBytes form (v ∷ vs) at out = layBytes form v at out
 
 abbrev pub theFlag : List (List ℕ) → Flag
 theFlag [] = NoFlag

@@ -25,6 +25,12 @@ pub enum Flag {
     NoFlag,
 }
 
+// How bytes may be written: as pairs of hexadecimal digits alone, or as text too.
+pub enum Written {
+    Hex,
+    HexOrText,
+}
+
 // The place after the bytes that were laid down.
 pub enum Laid {
     To(usize),

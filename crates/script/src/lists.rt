@@ -10,6 +10,7 @@ use crate::MethodItem;
 use crate::Methods;
 use crate::ProbeFrames;
 use crate::Slashes;
+use crate::Written;
 use frames::Id;
 use frames::ProbeFrame;
 use phones::ShortId;
@@ -55,13 +56,13 @@ fn method_id(s: &[u8]) -> IdItem
     ensures { λ r. ⌜ r ≡ methodId (now (s .entry)) ⌝ }
 {
     let mut bytes = [0u8; 32];
-    if crate::values::is_hex(s) {
-        let n = s.len() / 2;
+    if crate::values::is_bytes(s, Written::HexOrText) {
+        let n = crate::values::byte_count(s, Written::HexOrText);
         if 32 < n {
             let long = ShortId { bytes, len: n };
             return IdItem { ok: true, id: long };
         }
-        crate::values::put_pairs(s, &mut bytes, 0);
+        crate::values::put_bytes(s, Written::HexOrText, &mut bytes, 0);
         let id = ShortId { bytes, len: n };
         return IdItem { ok: true, id };
     }

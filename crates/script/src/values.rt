@@ -5,6 +5,7 @@ use crate::Data;
 use crate::Flag;
 use crate::Laid;
 use crate::Number;
+use crate::Written;
 use frames::Id;
 use hex::HexValue;
 use state::Car;
@@ -15,7 +16,7 @@ ghost use lib.ListN.{length};
 ghost use Rattle.arrays.specs.Arrays.{put};
 ghost use Rattle.ascii.specs.Ascii.{ascii};
 ghost use Rattle.script.specs.Places.{itemOf};
-ghost use Rattle.script.specs.Values.{digitOf, numberIn, isHex, pairsOf, laidTo, layBytes, flagIn, idIn, theNumber, theBytes, layTheBytes, theFlag, isTheWord, theId, dataIn, theData, carIn, theCar};
+ghost use Rattle.script.specs.Values.{digitOf, numberIn, isHex, pairsOf, isText, isBytes, asBytes, laidTo, layBytes, flagIn, idIn, theNumber, theBytes, layTheBytes, theFlag, isTheWord, theId, dataIn, theData, carIn, theCar};
 
 // The value of a digit, up to 15; 16 if it is none.
 fn digit(b: u8) -> u8
@@ -97,19 +98,64 @@ pub fn put_pairs(s: &[u8], out: &mut [u8], at: usize)
     }
 }
 
-// The same where they are digits and fit; otherwise nothing is written.
-pub fn bytes(s: &[u8], out: &mut [u8], at: usize) -> Laid
-    ensures { λ r. ⌜ (r ≡ laidTo (now (s .entry)) at (length (now (out .entry)))) × (now (out .exit) ≡ layBytes (now (s .entry)) at (now (out .entry))) ⌝ }
+// Whether this is a text where one may stand: an apostrophe, and then the bytes as they are.
+fn is_text(s: &[u8], form: Written) -> bool
+    ensures { λ r. ⌜ r ≡ isText form (now (s .entry)) ⌝ }
 {
-    if is_hex(s) {
-        let n = s.len() / 2;
+    if s.len() == 0 {
+        return false;
+    }
+    match form {
+        Written::Hex => false,
+        Written::HexOrText => s[0] == b'\'',
+    }
+}
+
+// Whether these are bytes: such a text, or hexadecimal digits in pairs.
+pub fn is_bytes(s: &[u8], form: Written) -> bool
+    ensures { λ r. ⌜ r ≡ isBytes form (now (s .entry)) ⌝ }
+{
+    if is_text(s, form) {
+        return true;
+    }
+    is_hex(s)
+}
+
+// How many bytes they are.
+pub fn byte_count(s: &[u8], form: Written) -> usize
+    ensures { λ r. ⌜ r ≡ length (asBytes form (now (s .entry))) ⌝ }
+{
+    if is_text(s, form) {
+        return s.len() - 1;
+    }
+    s.len() / 2
+}
+
+// Writes them over `out` from `at` on.
+pub fn put_bytes(s: &[u8], form: Written, out: &mut [u8], at: usize)
+    requires { ⌜ (isBytes form (now s) ≡ true) × (at + length (asBytes form (now s)) ≤ length (now out)) ⌝ }
+    ensures { λ _. ⌜ now (out .exit) ≡ put (now (out .entry)) at (asBytes form (now (s .entry))) ⌝ }
+{
+    if is_text(s, form) {
+        arrays::put(out, at, &s[1..]);
+        return;
+    }
+    put_pairs(s, out, at);
+}
+
+// The same where they are bytes and fit; otherwise nothing is written.
+pub fn bytes(s: &[u8], form: Written, out: &mut [u8], at: usize) -> Laid
+    ensures { λ r. ⌜ (r ≡ laidTo form (now (s .entry)) at (length (now (out .entry)))) × (now (out .exit) ≡ layBytes form (now (s .entry)) at (now (out .entry))) ⌝ }
+{
+    if is_bytes(s, form) {
+        let n = byte_count(s, form);
         if out.len() < at {
             return Laid::NoBytes;
         }
         if out.len() - at < n {
             return Laid::NoBytes;
         }
-        put_pairs(s, out, at);
+        put_bytes(s, form, out, at);
         return Laid::To(at + n);
     }
     Laid::NoBytes
@@ -206,14 +252,14 @@ pub fn number_of(line: &[u8], key: &[u8], most: u64) -> Number
 }
 
 // The bytes of the only item with this key, laid down in `out` from `at` on.
-pub fn bytes_of(line: &[u8], key: &[u8], out: &mut [u8], at: usize) -> Laid
-    ensures { λ r. ⌜ (r ≡ theBytes (itemOf (now (key .entry)) (now (line .entry))) at (length (now (out .entry)))) × (now (out .exit) ≡ layTheBytes (itemOf (now (key .entry)) (now (line .entry))) at (now (out .entry))) ⌝ }
+pub fn bytes_of(line: &[u8], key: &[u8], form: Written, out: &mut [u8], at: usize) -> Laid
+    ensures { λ r. ⌜ (r ≡ theBytes form (itemOf (now (key .entry)) (now (line .entry))) at (length (now (out .entry)))) × (now (out .exit) ≡ layTheBytes form (itemOf (now (key .entry)) (now (line .entry))) at (now (out .entry))) ⌝ }
 {
     let v = crate::item(line, key);
     if v.ok {
         let a = v.start;
         let e = v.end;
-        return bytes(&line[a..e], out, at);
+        return bytes(&line[a..e], form, out, at);
     }
     Laid::NoBytes
 }

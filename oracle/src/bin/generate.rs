@@ -4,7 +4,7 @@ use oracle::generate::{Options, script};
 use std::io::{self, BufWriter, Write};
 use std::process::ExitCode;
 
-const USAGE: &str = "usage: generate --seed S --calls N [--settings digits,tries,session,cooldown,keep] [--no-counters]";
+const USAGE: &str = "usage: generate --seed S --calls N [--settings digits,tries,session,cooldown,keep] [--no-counters] [--states] [--texts]";
 
 fn main() -> ExitCode {
     let mut seed = 1;
@@ -12,6 +12,7 @@ fn main() -> ExitCode {
     let mut options = Options {
         counters: true,
         states: false,
+        texts: false,
     };
     let mut arguments = std::env::args().skip(1);
     while let Some(argument) = arguments.next() {
@@ -32,6 +33,10 @@ fn main() -> ExitCode {
             }
             "--states" => {
                 options.states = true;
+                true
+            }
+            "--texts" => {
+                options.texts = true;
                 true
             }
             _ => false,

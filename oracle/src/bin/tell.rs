@@ -57,6 +57,7 @@ impl Run {
         let options = Options {
             counters: true,
             states: false,
+            texts: false,
         };
         let lines = script(seed, CALLS_OF_A_SCRIPT, options);
         let calls: Vec<Call> = lines

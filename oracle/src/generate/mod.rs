@@ -10,6 +10,7 @@ mod random;
 mod records;
 mod sessions;
 mod single;
+mod texts;
 mod windows;
 
 use crate::answer::Reply;
@@ -40,6 +41,8 @@ pub struct Options {
     pub counters: bool,
     /// A `state` line behind every call, and not only behind some.
     pub states: bool,
+    /// Some values as text. The calls are the same as without.
+    pub texts: bool,
 }
 
 /// A script of `calls` calls; the same seed gives the same script.
@@ -56,6 +59,9 @@ pub fn script(seed: u64, calls: usize, options: Options) -> Vec<String> {
     };
     while !generator.is_full() {
         generator.one_gate();
+    }
+    if options.texts {
+        return texts::with_texts(&generator.lines, seed);
     }
     generator.lines
 }

@@ -2,7 +2,6 @@ use borrow.Author.Needs.{needs}
 use denote.Ref.{now}
 use mathlib.Core.Path.{sym, ap, _∙_}
 use native.Mathlib.Nat.{add-zero}
-use native.Mathlib.Omega.{arith}
 use lib.ListN.{length}
 use Rattle.script.specs.Places.{itemOf}
 use Rattle.items.specs.Bytes.{hasBytes, bytesAt}
@@ -29,8 +28,8 @@ returns c =
     let a = s .args in
     let v = itemOf (now (a .key)) (now (a .line)) in
     let e = c .before .before .before .before .before .bytes-of .ensures in
-    let t = took _ _ _ (sym (laid-as v (a .at) (length (now (a .room))) (s .pre)) ∙ sym (e .0) ∙ c .before .laid .given .1) in
-    record { has = sym (t .0); end = sym (t .1); memory = e .1 ∙ lay-as v (a .at) (now (a .room)) (s .pre) }
+    let t = took _ _ _ (sym (laid-as (a .form) v (a .at) (length (now (a .room))) (s .pre)) ∙ sym (e .0) ∙ c .before .laid .given .1) in
+    record { has = sym (t .0); end = sym (t .1); memory = e .1 ∙ lay-as (a .form) v (a .at) (now (a .room)) (s .pre) }
 
 same-length-2 : tie.Need-same-length-2
 same-length-2 c = search needs
@@ -42,9 +41,9 @@ returns-2 c =
     let a = s .args in
     let v = itemOf (now (a .key)) (now (a .line)) in
     let e = c .before .before .before .before .bytes-of .ensures in
-    let t = took-none _ _ (sym (laid-as v (a .at) (length (now (a .room))) (s .pre)) ∙ sym (e .0) ∙ c .enum-told .given .1) in
-    let n = ap length (no-bytes v t) in
-    record { has = sym t; end = rw n (sym (add-zero (a .at))); memory = e .1 ∙ lay-as v (a .at) (now (a .room)) (s .pre) }
+    let t = took-none _ _ (sym (laid-as (a .form) v (a .at) (length (now (a .room))) (s .pre)) ∙ sym (e .0) ∙ c .enum-told .given .1) in
+    let n = ap length (no-bytes (a .form) v t) in
+    record { has = sym t; end = rw n (sym (add-zero (a .at))); memory = e .1 ∙ lay-as (a .form) v (a .at) (now (a .room)) (s .pre) }
 
 pub lay-spec : {M : Type 1} → statement M
 lay-spec =

@@ -6,6 +6,7 @@ use Prim.Native.Nat.{_≤_}
 use native.Mathlib.Omega.{arith}
 use lib.ListN.{length}
 use Rattle.ascii.specs.Ascii.{ascii}
+use Rattle.script.specs.declared.Written.the-variants.{Hex, HexOrText}
 use Rattle.items.specs.Bytes.{hasAt, bytesAt, bytesOf, lentBytes, joined, endsOf}
 use Rattle.items.proofs.Laws.{begin, next, lent-in}
 use Rattle.items.proofs.Together.{sizes}
@@ -22,40 +23,40 @@ slice-aggregate-lay-2 : tie.Need-slice-aggregate-lay-2
 slice-aggregate-lay-2 c = search needs
 
 lay-requires-2 : tie.Need-lay-requires-2
-lay-requires-2 c κs = omega (arith, sizes (now (c .before .before .before .before .before .before .before .before .before .args .line)), c .before .before .before .before .lay .ensures .end, c .before .before .before .before .lay .kept .1 .1 .0, c .before .before .before .before .before .before .before .before .before .pre)
+lay-requires-2 c κs = omega (arith, sizes (now (c .before .before .before .before .before .before .before .before .before .args .line)), c .before .before .before .before .lay .ensures .end, c .before .before .before .before .lay .kept .1 .1 .1 .0, c .before .before .before .before .before .before .before .before .before .pre)
 
 slice-aggregate-lay-3 : tie.Need-slice-aggregate-lay-3
 slice-aggregate-lay-3 c = search needs
 
 lay-requires-3 : tie.Need-lay-requires-3
-lay-requires-3 c κs = omega (arith, sizes (now (c .before .before .before .before .before .before .before .before .before .before .before .before .before .before .args .line)), c .before .before .before .before .lay2 .ensures .end, c .before .before .before .before .before .before .before .before .before .lay .ensures .end, c .before .before .before .before .lay2 .kept .1 .1 .0, c .before .before .before .before .before .before .before .before .before .lay .kept .1 .1 .0, c .before .before .before .before .before .before .before .before .before .before .before .before .before .before .pre)
+lay-requires-3 c κs = omega (arith, sizes (now (c .before .before .before .before .before .before .before .before .before .before .before .before .before .before .args .line)), c .before .before .before .before .lay2 .ensures .end, c .before .before .before .before .before .before .before .before .before .lay .ensures .end, c .before .before .before .before .lay2 .kept .1 .1 .1 .0, c .before .before .before .before .before .before .before .before .before .lay .kept .1 .1 .1 .0, c .before .before .before .before .before .before .before .before .before .before .before .before .before .before .pre)
 
 slice-aggregate-lay-4 : tie.Need-slice-aggregate-lay-4
 slice-aggregate-lay-4 c = search needs
 
 lay-requires-4 : tie.Need-lay-requires-4
-lay-requires-4 c κs = omega (arith, sizes (now (c .before .before .before .before .before .before .before .before .before .before .before .before .before .before .before .before .before .before .before .args .line)), c .before .before .before .before .lay3 .ensures .end, c .before .before .before .before .before .before .before .before .before .lay2 .ensures .end, c .before .before .before .before .before .before .before .before .before .before .before .before .before .before .lay .ensures .end, c .before .before .before .before .lay3 .kept .1 .1 .0, c .before .before .before .before .before .before .before .before .before .lay2 .kept .1 .1 .0, c .before .before .before .before .before .before .before .before .before .before .before .before .before .before .lay .kept .1 .1 .0, c .before .before .before .before .before .before .before .before .before .before .before .before .before .before .before .before .before .before .before .pre)
+lay-requires-4 c κs = omega (arith, sizes (now (c .before .before .before .before .before .before .before .before .before .before .before .before .before .before .before .before .before .before .before .args .line)), c .before .before .before .before .lay3 .ensures .end, c .before .before .before .before .before .before .before .before .before .lay2 .ensures .end, c .before .before .before .before .before .before .before .before .before .before .before .before .before .before .lay .ensures .end, c .before .before .before .before .lay3 .kept .1 .1 .1 .0, c .before .before .before .before .before .before .before .before .before .lay2 .kept .1 .1 .1 .0, c .before .before .before .before .before .before .before .before .before .before .before .before .before .before .lay .kept .1 .1 .1 .0, c .before .before .before .before .before .before .before .before .before .before .before .before .before .before .before .before .before .before .before .pre)
 
 slice-aggregate-lay-5 : tie.Need-slice-aggregate-lay-5
 slice-aggregate-lay-5 c = search needs
 
 lay-requires-5 : tie.Need-lay-requires-5
-lay-requires-5 c κs = omega (arith, sizes (now (c .before .before .before .before .before .before .before .before .before .before .before .before .before .before .before .before .before .before .before .before .before .before .before .before .args .line)), c .before .before .before .before .lay4 .ensures .end, c .before .before .before .before .before .before .before .before .before .lay3 .ensures .end, c .before .before .before .before .before .before .before .before .before .before .before .before .before .before .lay2 .ensures .end, c .before .before .before .before .before .before .before .before .before .before .before .before .before .before .before .before .before .before .before .lay .ensures .end, c .before .before .before .before .lay4 .kept .1 .1 .0, c .before .before .before .before .before .before .before .before .before .lay3 .kept .1 .1 .0, c .before .before .before .before .before .before .before .before .before .before .before .before .before .before .lay2 .kept .1 .1 .0, c .before .before .before .before .before .before .before .before .before .before .before .before .before .before .before .before .before .before .before .lay .kept .1 .1 .0, c .before .before .before .before .before .before .before .before .before .before .before .before .before .before .before .before .before .before .before .before .before .before .before .before .pre)
+lay-requires-5 c κs = omega (arith, sizes (now (c .before .before .before .before .before .before .before .before .before .before .before .before .before .before .before .before .before .before .before .before .before .before .before .before .args .line)), c .before .before .before .before .lay4 .ensures .end, c .before .before .before .before .before .before .before .before .before .lay3 .ensures .end, c .before .before .before .before .before .before .before .before .before .before .before .before .before .before .lay2 .ensures .end, c .before .before .before .before .before .before .before .before .before .before .before .before .before .before .before .before .before .before .before .lay .ensures .end, c .before .before .before .before .lay4 .kept .1 .1 .1 .0, c .before .before .before .before .before .before .before .before .before .lay3 .kept .1 .1 .1 .0, c .before .before .before .before .before .before .before .before .before .before .before .before .before .before .lay2 .kept .1 .1 .1 .0, c .before .before .before .before .before .before .before .before .before .before .before .before .before .before .before .before .before .before .before .lay .kept .1 .1 .1 .0, c .before .before .before .before .before .before .before .before .before .before .before .before .before .before .before .before .before .before .before .before .before .before .before .before .pre)
 
 slice-aggregate-lay-6 : tie.Need-slice-aggregate-lay-6
 slice-aggregate-lay-6 c = search needs
 
 lay-requires-6 : tie.Need-lay-requires-6
-lay-requires-6 c κs = omega (arith, sizes (now (c .before .before .before .before .before .before .before .before .before .before .before .before .before .before .before .before .before .before .before .before .before .before .before .before .before .before .before .before .before .args .line)), c .before .before .before .before .lay5 .ensures .end, c .before .before .before .before .before .before .before .before .before .lay4 .ensures .end, c .before .before .before .before .before .before .before .before .before .before .before .before .before .before .lay3 .ensures .end, c .before .before .before .before .before .before .before .before .before .before .before .before .before .before .before .before .before .before .before .lay2 .ensures .end, c .before .before .before .before .before .before .before .before .before .before .before .before .before .before .before .before .before .before .before .before .before .before .before .before .lay .ensures .end, c .before .before .before .before .lay5 .kept .1 .1 .0, c .before .before .before .before .before .before .before .before .before .lay4 .kept .1 .1 .0, c .before .before .before .before .before .before .before .before .before .before .before .before .before .before .lay3 .kept .1 .1 .0, c .before .before .before .before .before .before .before .before .before .before .before .before .before .before .before .before .before .before .before .lay2 .kept .1 .1 .0, c .before .before .before .before .before .before .before .before .before .before .before .before .before .before .before .before .before .before .before .before .before .before .before .before .lay .kept .1 .1 .0, c .before .before .before .before .before .before .before .before .before .before .before .before .before .before .before .before .before .before .before .before .before .before .before .before .before .before .before .before .before .pre)
+lay-requires-6 c κs = omega (arith, sizes (now (c .before .before .before .before .before .before .before .before .before .before .before .before .before .before .before .before .before .before .before .before .before .before .before .before .before .before .before .before .before .args .line)), c .before .before .before .before .lay5 .ensures .end, c .before .before .before .before .before .before .before .before .before .lay4 .ensures .end, c .before .before .before .before .before .before .before .before .before .before .before .before .before .before .lay3 .ensures .end, c .before .before .before .before .before .before .before .before .before .before .before .before .before .before .before .before .before .before .before .lay2 .ensures .end, c .before .before .before .before .before .before .before .before .before .before .before .before .before .before .before .before .before .before .before .before .before .before .before .before .lay .ensures .end, c .before .before .before .before .lay5 .kept .1 .1 .1 .0, c .before .before .before .before .before .before .before .before .before .lay4 .kept .1 .1 .1 .0, c .before .before .before .before .before .before .before .before .before .before .before .before .before .before .lay3 .kept .1 .1 .1 .0, c .before .before .before .before .before .before .before .before .before .before .before .before .before .before .before .before .before .before .before .lay2 .kept .1 .1 .1 .0, c .before .before .before .before .before .before .before .before .before .before .before .before .before .before .before .before .before .before .before .before .before .before .before .before .lay .kept .1 .1 .1 .0, c .before .before .before .before .before .before .before .before .before .before .before .before .before .before .before .before .before .before .before .before .before .before .before .before .before .before .before .before .before .pre)
 
 slice-aggregate-lay-7 : tie.Need-slice-aggregate-lay-7
 slice-aggregate-lay-7 c = search needs
 
 lay-requires-7 : tie.Need-lay-requires-7
-lay-requires-7 c κs = omega (arith, sizes (now (c .before .before .before .before .before .before .before .before .before .before .before .before .before .before .before .before .before .before .before .before .before .before .before .before .before .before .before .before .before .before .before .before .before .before .args .line)), c .before .before .before .before .lay6 .ensures .end, c .before .before .before .before .before .before .before .before .before .lay5 .ensures .end, c .before .before .before .before .before .before .before .before .before .before .before .before .before .before .lay4 .ensures .end, c .before .before .before .before .before .before .before .before .before .before .before .before .before .before .before .before .before .before .before .lay3 .ensures .end, c .before .before .before .before .before .before .before .before .before .before .before .before .before .before .before .before .before .before .before .before .before .before .before .before .lay2 .ensures .end, c .before .before .before .before .before .before .before .before .before .before .before .before .before .before .before .before .before .before .before .before .before .before .before .before .before .before .before .before .before .lay .ensures .end, c .before .before .before .before .lay6 .kept .1 .1 .0, c .before .before .before .before .before .before .before .before .before .lay5 .kept .1 .1 .0, c .before .before .before .before .before .before .before .before .before .before .before .before .before .before .lay4 .kept .1 .1 .0, c .before .before .before .before .before .before .before .before .before .before .before .before .before .before .before .before .before .before .before .lay3 .kept .1 .1 .0, c .before .before .before .before .before .before .before .before .before .before .before .before .before .before .before .before .before .before .before .before .before .before .before .before .lay2 .kept .1 .1 .0, c .before .before .before .before .before .before .before .before .before .before .before .before .before .before .before .before .before .before .before .before .before .before .before .before .before .before .before .before .before .lay .kept .1 .1 .0, c .before .before .before .before .before .before .before .before .before .before .before .before .before .before .before .before .before .before .before .before .before .before .before .before .before .before .before .before .before .before .before .before .before .before .pre)
+lay-requires-7 c κs = omega (arith, sizes (now (c .before .before .before .before .before .before .before .before .before .before .before .before .before .before .before .before .before .before .before .before .before .before .before .before .before .before .before .before .before .before .before .before .before .before .args .line)), c .before .before .before .before .lay6 .ensures .end, c .before .before .before .before .before .before .before .before .before .lay5 .ensures .end, c .before .before .before .before .before .before .before .before .before .before .before .before .before .before .lay4 .ensures .end, c .before .before .before .before .before .before .before .before .before .before .before .before .before .before .before .before .before .before .before .lay3 .ensures .end, c .before .before .before .before .before .before .before .before .before .before .before .before .before .before .before .before .before .before .before .before .before .before .before .before .lay2 .ensures .end, c .before .before .before .before .before .before .before .before .before .before .before .before .before .before .before .before .before .before .before .before .before .before .before .before .before .before .before .before .before .lay .ensures .end, c .before .before .before .before .lay6 .kept .1 .1 .1 .0, c .before .before .before .before .before .before .before .before .before .lay5 .kept .1 .1 .1 .0, c .before .before .before .before .before .before .before .before .before .before .before .before .before .before .lay4 .kept .1 .1 .1 .0, c .before .before .before .before .before .before .before .before .before .before .before .before .before .before .before .before .before .before .before .lay3 .kept .1 .1 .1 .0, c .before .before .before .before .before .before .before .before .before .before .before .before .before .before .before .before .before .before .before .before .before .before .before .before .lay2 .kept .1 .1 .1 .0, c .before .before .before .before .before .before .before .before .before .before .before .before .before .before .before .before .before .before .before .before .before .before .before .before .before .before .before .before .before .lay .kept .1 .1 .1 .0, c .before .before .before .before .before .before .before .before .before .before .before .before .before .before .before .before .before .before .before .before .before .before .before .before .before .before .before .before .before .before .before .before .before .before .pre)
 
 same-length : tie.Need-same-length
-same-length c = c .before .before .lay7 .kept .1 .1 .0 ∙ c .before .before .before .before .before .before .before .lay6 .kept .1 .1 .0 ∙ c .before .before .before .before .before .before .before .before .before .before .before .before .lay5 .kept .1 .1 .0 ∙ c .before .before .before .before .before .before .before .before .before .before .before .before .before .before .before .before .before .lay4 .kept .1 .1 .0 ∙ c .before .before .before .before .before .before .before .before .before .before .before .before .before .before .before .before .before .before .before .before .before .before .lay3 .kept .1 .1 .0 ∙ c .before .before .before .before .before .before .before .before .before .before .before .before .before .before .before .before .before .before .before .before .before .before .before .before .before .before .before .lay2 .kept .1 .1 .0 ∙ c .before .before .before .before .before .before .before .before .before .before .before .before .before .before .before .before .before .before .before .before .before .before .before .before .before .before .before .before .before .before .before .before .lay .kept .1 .1 .0
+same-length c = c .before .before .lay7 .kept .1 .1 .1 .0 ∙ c .before .before .before .before .before .before .before .lay6 .kept .1 .1 .1 .0 ∙ c .before .before .before .before .before .before .before .before .before .before .before .before .lay5 .kept .1 .1 .1 .0 ∙ c .before .before .before .before .before .before .before .before .before .before .before .before .before .before .before .before .before .lay4 .kept .1 .1 .1 .0 ∙ c .before .before .before .before .before .before .before .before .before .before .before .before .before .before .before .before .before .before .before .before .before .before .lay3 .kept .1 .1 .1 .0 ∙ c .before .before .before .before .before .before .before .before .before .before .before .before .before .before .before .before .before .before .before .before .before .before .before .before .before .before .before .lay2 .kept .1 .1 .1 .0 ∙ c .before .before .before .before .before .before .before .before .before .before .before .before .before .before .before .before .before .before .before .before .before .before .before .before .before .before .before .before .before .before .before .before .lay .kept .1 .1 .1 .0
 
 returns : tie.Need-returns
 unfolding hasAt bytesOf lentBytes joined endsOf
@@ -70,13 +71,13 @@ returns c =
     let l5 = c .before .before .before .before .before .before .before .before .before .before .before .before .lay5 .ensures in
     let l6 = c .before .before .before .before .before .before .before .lay6 .ensures in
     let l7 = c .before .before .lay7 .ensures in
-    let x1 = bytesAt (ascii "phone") line in
-    let x2 = bytesAt (ascii "method") line in
-    let x3 = bytesAt (ascii "random") line in
-    let x4 = bytesAt (ascii "code") line in
-    let x5 = bytesAt (ascii "record") line in
-    let x6 = bytesAt (ascii "fingerprint") line in
-    let x7 = bytesAt (ascii "owner") line in
+    let x1 = bytesAt HexOrText (ascii "phone") line in
+    let x2 = bytesAt HexOrText (ascii "method") line in
+    let x3 = bytesAt Hex (ascii "random") line in
+    let x4 = bytesAt HexOrText (ascii "code") line in
+    let x5 = bytesAt Hex (ascii "record") line in
+    let x6 = bytesAt Hex (ascii "fingerprint") line in
+    let x7 = bytesAt HexOrText (ascii "owner") line in
     let b1 = next x1 (begin d) (l1 .end) (l1 .memory) in
     let b2 = next x2 (b1) (l2 .end) (l2 .memory) in
     let b3 = next x3 (b2) (l3 .end) (l3 .memory) in
