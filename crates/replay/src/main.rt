@@ -1,6 +1,7 @@
 // Reads a script on standard input, plays it on one gate and prints what each line gives; with the argument `--state` also
 // the gate's state after each call. What is printed of a line is `player::play` of it. What a program reads and writes is open
 // to a contract; `run` and `main` give nothing back.
+use libc::STDERR_FILENO;
 use libc::STDIN_FILENO;
 use libc::STDOUT_FILENO;
 use state::Gate;
@@ -11,6 +12,7 @@ ghost use Prim.Native.Nat.{_≤_};
 ghost use lib.ListN.{length};
 ghost use Rattle.lines.specs.Page.{page};
 ghost use Rattle.turns.specs.Turns.{turnOf};
+ghost use Rattle.replay.specs.Arguments.{askedBy};
 ghost use Rattle.replay.specs.Script.{keptLen, keptIn, lineIn, lineGives, gateAfter, read, ReadOn, readingOf, nextLine};
 
 // The gate, the number of the line that is being read, and how much of it is there; above the room for a line: it is too
@@ -22,11 +24,40 @@ struct Replay {
     going: bool,
 }
 
-// Whether the first argument asks for states. What the argument is, is open.
-fn wants_states() -> bool {
-    let mut word = [0u8; 16];
-    let n = os::arg(1, &mut word);
-    arrays::same_bytes(&word[..n], b"--state")
+// What the arguments ask for: what each line gives, or states too; otherwise the place of an argument that is not known.
+enum Asked {
+    Lines,
+    States,
+    Unknown(usize),
+}
+
+fn asked_by(count: usize, first: &[u8]) -> Asked
+    ensures { λ r. ⌜ r ≡ askedBy count (now (first .entry)) ⌝ }
+{
+    if count < 2 {
+        return Asked::Lines;
+    }
+    if arrays::same_bytes(first, b"--state") {
+        if count < 3 {
+            return Asked::States;
+        }
+        return Asked::Unknown(2);
+    }
+    Asked::Unknown(1)
+}
+
+// Says that an argument is not known; of a long one the first 256 bytes.
+fn refuse(place: usize) {
+    let mut word = [0u8; 256];
+    let n = os::arg(place, &mut word);
+    let long = os::errno() == libc::ENAMETOOLONG;
+    io::write_all(STDERR_FILENO, b"replay: unknown argument '");
+    if long {
+        io::write_all(STDERR_FILENO, &word);
+    } else {
+        io::write_all(STDERR_FILENO, &word[..n]);
+    }
+    io::write_all(STDERR_FILENO, b"'; it takes --state or none\n");
 }
 
 // Puts more of a line behind what is there.
@@ -143,10 +174,9 @@ fn turn(p: Replay, line: &mut [u8], states: bool, room: &mut [u8], out: &mut [u8
     q
 }
 
-fn run(line: &mut [u8], room: &mut [u8], out: &mut [u8])
+fn run(states: bool, line: &mut [u8], room: &mut [u8], out: &mut [u8])
     requires { ⌜ length (now line) ≤ length (now room) ⌝ }
 {
-    let states = wants_states();
     let first = player::first_gate();
     let mut p = Replay {
         gate: first,
@@ -165,9 +195,20 @@ fn run(line: &mut [u8], room: &mut [u8], out: &mut [u8])
     }
 }
 
-fn main() {
+fn play(states: bool) {
     let mut line = [0u8; 16384];
     let mut room = [0u8; 16384];
     let mut out = [0u8; 16384];
-    run(&mut line, &mut room, &mut out);
+    run(states, &mut line, &mut room, &mut out);
+}
+
+fn main() {
+    let mut first = [0u8; 16];
+    let n = os::arg(1, &mut first);
+    let asked = asked_by(os::arg_count(), &first[..n]);
+    match asked {
+        Asked::Lines => play(false),
+        Asked::States => play(true),
+        Asked::Unknown(place) => refuse(place),
+    }
 }

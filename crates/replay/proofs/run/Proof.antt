@@ -6,13 +6,10 @@ use Rattle.replay.proofs.run.Statement.{statement}
 use Rattle.replay.proofs.run.Tie as tie
 
 abbrev Inv-loop : tie.InvT-loop
-Inv-loop line₀ room₀ out₀ states p₀ turns₀ line room out p turns = (length line ≡ length line₀) × (length room ≡ length room₀) × (length out ≡ length out₀)
+Inv-loop states line₀ room₀ out₀ p₀ turns₀ line room out p turns = (length line ≡ length line₀) × (length room ≡ length room₀) × (length out ≡ length out₀)
 
 abbrev μ-loop : tie.MeasureT-loop
-μ-loop line₀ room₀ out₀ states p₀ turns₀ line room out p turns = turns
-
-wants-states-requires : tie.Need-wants-states-requires Inv-loop μ-loop
-wants-states-requires c κs = tt
+μ-loop states line₀ room₀ out₀ p₀ turns₀ line room out p turns = turns
 
 first-gate-requires : tie.Need-first-gate-requires Inv-loop μ-loop
 first-gate-requires c κs = tt
@@ -62,7 +59,6 @@ run-spec =
     (tie.spec
     Inv-loop
     μ-loop
-    wants-states-requires
     first-gate-requires
     loop-holds
     turn-requires
