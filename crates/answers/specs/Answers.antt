@@ -7,8 +7,7 @@ use lib.Dec.{eqb, ltb}
 use lib.ListN.{length, take, replicate}
 use Rattle.arrays.specs.Arrays.{padded}
 use Rattle.phones.specs.declared.ShortId.{ShortId}
-use Rattle.phones.specs.declared.PhoneList.{PhoneList}
-use Rattle.phones.specs.Phones.{idBytes, idOf, phonesOf, listOf}
+use Rattle.phones.specs.Phones.{idBytes, idOf}
 use Rattle.saved_record.specs.declared.SavedRecord.{SavedRecord}
 use Rattle.state.specs.declared.Method.{Method}
 use Rattle.state.specs.declared.Methods.{Methods}
@@ -20,12 +19,12 @@ use Rattle.state.specs.declared.Answer.{Answer}
 use Rattle.state.specs.declared.Answer.the-variants as Answer
 use Rattle.state.specs.declared.Answer.the-variants.{Done, Nothing, BadSettings}
 use Rattle.state.specs.Running.{isRunning, inProgress, codeInProgress, noMethod, cleanMethod}
+use Rattle.state.specs.View.{Lists, View}
 use Rattle.range.specs.Range.{inRange}
 use Rattle.state.specs.Replies.{noRecord, noChallenge}
 use Rattle.policy.specs.declared.Approval.{Approval}
 use Rattle.policy.specs.declared.Approval.the-variants.{NotApproved}
 use Rattle.policy.specs.Policy.{fingerprintConfirmed, devLock, devUnlocked, isReadOnly, approvalOf}
-use Rattle.policy_changes.specs.Changes.{yesNo}
 use Rattle.phone_trust.specs.declared.Trust.{Trust}
 use Rattle.phone_trust.specs.declared.Trust.the-variants.{NotBonded}
 use Rattle.phone_trust.specs.Trust.{isValidated, carHasValidated, trustOf}
@@ -33,7 +32,6 @@ use Rattle.validations.specs.Store.{recordFor}
 use Rattle.session.specs.Session.{replyOf, isOf, lostReadWrite, noteAt}
 use Rattle.answers.specs.declared.ApprovalAnswer.{ApprovalAnswer}
 use Rattle.answers.specs.declared.AccessAnswer.{AccessAnswer}
-use Rattle.answers.specs.declared.PhonesAnswer.{PhonesAnswer}
 use Rattle.answers.specs.declared.TrustAnswer.{TrustAnswer}
 use Rattle.answers.specs.declared.PeerAnswer.{PeerAnswer}
 use Rattle.answers.specs.declared.PhoneAccessAnswer.{PhoneAccessAnswer}
@@ -43,15 +41,15 @@ use Rattle.answers.specs.declared.RecordAnswer.{RecordAnswer}
 
 -- ---- yes or no, a number
 
-unfoldable pub ifInRange : Core → Answer → Answer
-ifInRange c a = cond (inRange c) a BadSettings
+unfoldable pub ifInRange : View → Answer → Answer
+ifInRange v a = cond (inRange v) a BadSettings
 
 -- ---- the policy
 
-unfoldable pub approvalAnswer : Core → ApprovalAnswer
-approvalAnswer c =
-    cond (inRange c)
-    (record { answer = Done; approval = approvalOf (c .policy .identity) (c .policy .access) })
+unfoldable pub approvalAnswer : View → ApprovalAnswer
+approvalAnswer v =
+    cond (inRange v)
+    (record { answer = Done; approval = approvalOf (v .core .policy .identity) (v .core .policy .access) })
     (record { answer = BadSettings; approval = NotApproved })
 
 -- can_access_state
@@ -70,39 +68,34 @@ accessStateOf p = record {
 abbrev pub noAccessState : AccessAnswer
 noAccessState = record { answer = BadSettings; platform = false; car = false; approval = NotApproved; devlock = false; unlocked = false; logging = false; readonly = true }
 
-unfoldable pub accessAnswer : Core → AccessAnswer
-accessAnswer c = cond (inRange c) (accessStateOf (c .policy)) noAccessState
+unfoldable pub accessAnswer : View → AccessAnswer
+accessAnswer v = cond (inRange v) (accessStateOf (v .core .policy)) noAccessState
 
 -- ---- phones
 
--- list_paired_phones
-unfoldable pub phonesAnswer : Core → PhonesAnswer
-phonesAnswer c =
-    cond (inRange c)
-    (record { answer = Done; phones = listOf (phonesOf (c .paired)) })
-    (record { answer = BadSettings; phones = listOf [] })
-
-unfoldable pub trustAnswer : Core → List ℕ → TrustAnswer
-trustAnswer c id =
-    cond (inRange c) (record { answer = Done; trust = trustOf c id }) (record { answer = BadSettings; trust = NotBonded })
+unfoldable pub trustAnswer : View → List ℕ → TrustAnswer
+trustAnswer v id =
+    cond (inRange v)
+    (record { answer = Done; trust = trustOf (v .core .policy .identity) (v .lists) id })
+    (record { answer = BadSettings; trust = NotBonded })
 
 -- encode_phone_validations
-unfoldable pub recordAnswer : Core → RecordAnswer
-recordAnswer c =
-    cond (inRange c) (record { answer = Done; stored = recordFor (c .validations) }) (record { answer = BadSettings; stored = noRecord })
+unfoldable pub recordAnswer : View → RecordAnswer
+recordAnswer v =
+    cond (inRange v) (record { answer = Done; stored = recordFor (v .lists .store) }) (record { answer = BadSettings; stored = noRecord })
 
 -- ---- the connected phone: none exactly if its id is empty
 
 abbrev pub noPeer : Answer → PeerAnswer
 noPeer a = record { answer = a; peer = idOf []; validated = false }
 
-abbrev pub peerOf : Core → PeerAnswer
-peerOf c =
+abbrev pub peerOf : Core → Lists → PeerAnswer
+peerOf c l =
     cond (eqb (c .peer .len) 0) (noPeer Nothing)
-    (record { answer = Done; peer = idOf (idBytes (c .peer)); validated = isValidated c (idBytes (c .peer)) })
+    (record { answer = Done; peer = idOf (idBytes (c .peer)); validated = isValidated (c .policy .identity) l (idBytes (c .peer)) })
 
-unfoldable pub peerAnswer : Core → PeerAnswer
-peerAnswer c = cond (inRange c) (peerOf c) (noPeer BadSettings)
+unfoldable pub peerAnswer : View → PeerAnswer
+peerAnswer v = cond (inRange v) (peerOf (v .core) (v .lists)) (noPeer BadSettings)
 
 -- ---- sessions
 
@@ -121,18 +114,18 @@ sessionShown c phone clock =
 abbrev pub noAccess : Answer → PhoneAccessAnswer
 noAccess a = record { answer = a; trust = NotBonded; «car_has_validated» = false; session = Nothing }
 
-abbrev pub phoneAccessOf : Core → ℕ → PhoneAccessAnswer
-phoneAccessOf c clock =
+abbrev pub phoneAccessOf : Core → Lists → ℕ → PhoneAccessAnswer
+phoneAccessOf c l clock =
     cond (eqb (c .peer .len) 0) (noAccess Nothing)
     (record {
       answer = Done;
-      trust = trustOf c (idBytes (c .peer));
-      «car_has_validated» = carHasValidated c;
+      trust = trustOf (c .policy .identity) l (idBytes (c .peer));
+      «car_has_validated» = carHasValidated (c .policy .identity) l;
       session = sessionShown c (idBytes (c .peer)) clock;
     })
 
-unfoldable pub phoneAccessAnswer : Core → ℕ → PhoneAccessAnswer
-phoneAccessAnswer c clock = cond (inRange c) (phoneAccessOf c clock) (noAccess BadSettings)
+unfoldable pub phoneAccessAnswer : View → ℕ → PhoneAccessAnswer
+phoneAccessAnswer v clock = cond (inRange v) (phoneAccessOf (v .core) (v .lists) clock) (noAccess BadSettings)
 
 -- ---- methods
 
@@ -154,8 +147,8 @@ methodsNow c =
     let n = c .methods .count in
     methodsOf Done (take n (map cleanMethod (c .methods .list))) (canStartFrom c 0 (take n (c .methods .list)))
 
-unfoldable pub methodsAnswer : Core → MethodsAnswer
-methodsAnswer c = cond (inRange c) (methodsNow c) (methodsOf BadSettings [] [])
+unfoldable pub methodsAnswer : View → MethodsAnswer
+methodsAnswer v = cond (inRange v) (methodsNow (v .core)) (methodsOf BadSettings [] [])
 
 -- ---- the challenge
 
@@ -178,5 +171,5 @@ abbrev pub challengeNow : Core → List ℕ → ChallengeAnswer
 challengeNow c held =
     cond (inProgress (c .validation .session)) (record { answer = Done; challenge = challengeOf c held }) (noChallengeNow Nothing)
 
-unfoldable pub challengeAnswer : Core → List ℕ → ChallengeAnswer
-challengeAnswer c held = cond (inRange c) (challengeNow c held) (noChallengeNow BadSettings)
+unfoldable pub challengeAnswer : View → ChallengeAnswer
+challengeAnswer v = cond (inRange v) (challengeNow (v .core) (v .code)) (noChallengeNow BadSettings)

@@ -1,14 +1,15 @@
 -- How a reply is laid down.
 use Rattle.answers.specs.Query.{Reply, plain, approval, access, phones, trust, peer, phoneAccess, methods, challenge, saved}
+use Rattle.phones.specs.declared.PhoneList.{PhoneList}
 use Rattle.lines.specs.Answer.{answer}
 use Rattle.lines.specs.Page.{Page}
 use Rattle.query_lines.specs.Query as Lines
 
-abbrev pub shown : Reply → Page → Page
+abbrev pub shown : Reply PhoneList → Page → Page
 shown (plain a) p = answer a p
 shown (approval a) p = Lines.approval a p
 shown (access a) p = Lines.access a p
-shown (phones a) p = Lines.phonesListed a p
+shown (phones a ps) p = Lines.phonesListed (record { answer = a; phones = ps }) p
 shown (trust a) p = Lines.trust a p
 shown (peer a) p = Lines.peer a p
 shown (phoneAccess a) p = Lines.phoneAccess a p

@@ -5,7 +5,7 @@ use state::Answer;
 use state::Gate;
 ghost use mathlib.Core.Path.{_≡_};
 ghost use Rattle.answers.specs.Query.{plain};
-ghost use Rattle.definition.specs.Gate.{ask, asked, step};
+ghost use Rattle.definition.specs.Gate.{ask, answered, step};
 ghost use Rattle.items.specs.Bytes.{lentBytes};
 ghost use Rattle.lines.specs.Page.{page};
 ghost use Rattle.calls.specs.Calls.{plainQuery, longQuery};
@@ -13,7 +13,7 @@ ghost use Rattle.asks.specs.Shown.{shown};
 
 // The queries that give an answer and nothing else, by their place; a number past the last asks the first.
 pub fn plain_query(g: Gate, name: usize, i: Items, p: Ends, room: &[u8]) -> Answer
-    ensures { λ r. ⌜ asked g (plain r) ≡ step g (ask (plainQuery name i (lentBytes p (now (room .entry))))) ⌝ }
+    ensures { λ r. ⌜ answered g (plain r) ≡ step g (ask (plainQuery name i (lentBytes p (now (room .entry))))) ⌝ }
 {
     let bus = i.numbers.bus.value;
     let at = i.numbers.clock.value;

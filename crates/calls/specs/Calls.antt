@@ -4,7 +4,7 @@ use mathlib.Core.List.{List, [], _∷_, _++_, map}
 use Prim.Native.Nat.{ℕ}
 use lib.ListN.{getD}
 use Rattle.answers.specs.Query.{Query, isCanReadOnly, canReadOnlyReason, isCarIdentityConfirmed, isCarFingerprintConfirmed, canReadWriteApproval, hasCanDevWriteLock, isCanDevWriteUnlocked, canAccessState, platformId, isCanLogging, isCanFdBus, isCanBusReadOnly, isCanBusListenOnly, isPhonePaired, pairedPhoneCount, listPairedPhones, bleMaxBondedPhones, isPhoneValidated, carHasValidatedPhone, phoneTrustLevel, blePeer, encodePhoneValidations, phoneAccessState, validationMethods, sessionFor, currentValidationChallenge}
-use Rattle.definition.specs.Gate.{Call, newGateCall, startValidation, submitValidationCode, change, ask}
+use Rattle.definition.specs.Gate.{Call, newGateCall, startValidation, submitValidationCode, onSession, onLists, onCore, ask}
 use Rattle.definition.specs.Gate.{cancelValidation, completeValidationAction, tickValidation, addPairedPhone, removePairedPhone, clearPairedPhones, forgetPhoneValidation, prunePhoneValidations, setBlePeer, restorePhoneValidations, approveCanReadWrite, revokeCanReadWriteApproval, restoreCanReadWriteApproval, setCanDevWriteUnlocked, declareProductionBuild, confirmCarIdentity, revokeCarIdentity, confirmCarFingerprint, setCanReadOnly, openIdentityProbe, closeIdentityProbe, allowCanTx, heardCanFrame, notePlatformId, noteCanLogging, noteCanFdBus, noteMethodAvailable, noteMethodCanContinue}
 use Rattle.items.specs.Bytes.{Bytes}
 use Rattle.items.specs.declared.Items.{Items}
@@ -20,40 +20,40 @@ phoneCalls i b =
     newCall i
     ∷ startValidation (b .phone) (b .method) (i .numbers .clock .value) (b .random)
     ∷ submitValidationCode (b .phone) (b .code) (i .numbers .clock .value)
-    ∷ change (cancelValidation (b .phone) (i .numbers .clock .value))
-    ∷ change (completeValidationAction (i .numbers .session .value) (i .numbers .clock .value))
-    ∷ change (tickValidation (i .numbers .clock .value))
-    ∷ change (addPairedPhone (b .phone))
-    ∷ change (removePairedPhone (b .phone))
-    ∷ change clearPairedPhones
-    ∷ change (forgetPhoneValidation (b .phone))
-    ∷ change prunePhoneValidations
-    ∷ change (restorePhoneValidations (b .stored))
-    ∷ change (setBlePeer (b .phone))
+    ∷ onSession (cancelValidation (b .phone) (i .numbers .clock .value))
+    ∷ onSession (completeValidationAction (i .numbers .session .value) (i .numbers .clock .value))
+    ∷ onSession (tickValidation (i .numbers .clock .value))
+    ∷ onLists (addPairedPhone (b .phone))
+    ∷ onLists (removePairedPhone (b .phone))
+    ∷ onLists clearPairedPhones
+    ∷ onLists (forgetPhoneValidation (b .phone))
+    ∷ onLists prunePhoneValidations
+    ∷ onLists (restorePhoneValidations (b .stored))
+    ∷ onCore (setBlePeer (b .phone))
     ∷ []
 
 -- the approval, the dev lock, the bike's identity, the probe, outbound frames and the host's notes; a platform frame has no
 -- owner, which is no bytes
 unfoldable pub canCalls : Items → Bytes → List Call
 canCalls i b =
-    change approveCanReadWrite
-    ∷ change revokeCanReadWriteApproval
-    ∷ change (restoreCanReadWriteApproval (i .car .car))
-    ∷ change (setCanDevWriteUnlocked (i .switches .unlocked .on))
-    ∷ change declareProductionBuild
-    ∷ change confirmCarIdentity
-    ∷ change revokeCarIdentity
-    ∷ change (confirmCarFingerprint (b .fingerprint))
-    ∷ change (setCanReadOnly (i .switches .enabled .on))
-    ∷ change (openIdentityProbe (i .numbers .bus .value) (i .frames .list) (i .frames .count) (i .numbers .clock .value))
-    ∷ change closeIdentityProbe
-    ∷ change (allowCanTx (i .numbers .bus .value) (i .frame .frame) (i .class .class) (b .owner) (i .numbers .clock .value))
-    ∷ change (heardCanFrame (i .numbers .bus .value) (i .numbers .clock .value))
-    ∷ change (notePlatformId (i .numbers .number .value))
-    ∷ change (noteCanLogging (i .switches .on .on))
-    ∷ change (noteCanFdBus (i .numbers .bus .value) (i .switches .on .on))
-    ∷ change (noteMethodAvailable (i .numbers .place .value) (i .switches .on .on))
-    ∷ change (noteMethodCanContinue (i .numbers .place .value) (i .switches .on .on))
+    approveCanReadWrite
+    ∷ onCore revokeCanReadWriteApproval
+    ∷ onCore (restoreCanReadWriteApproval (i .car .car))
+    ∷ onCore (setCanDevWriteUnlocked (i .switches .unlocked .on))
+    ∷ onCore declareProductionBuild
+    ∷ onCore confirmCarIdentity
+    ∷ onCore revokeCarIdentity
+    ∷ onCore (confirmCarFingerprint (b .fingerprint))
+    ∷ onCore (setCanReadOnly (i .switches .enabled .on))
+    ∷ onCore (openIdentityProbe (i .numbers .bus .value) (i .frames .list) (i .frames .count) (i .numbers .clock .value))
+    ∷ onCore closeIdentityProbe
+    ∷ onCore (allowCanTx (i .numbers .bus .value) (i .frame .frame) (i .class .class) (b .owner) (i .numbers .clock .value))
+    ∷ onCore (heardCanFrame (i .numbers .bus .value) (i .numbers .clock .value))
+    ∷ onCore (notePlatformId (i .numbers .number .value))
+    ∷ onCore (noteCanLogging (i .switches .on .on))
+    ∷ onCore (noteCanFdBus (i .numbers .bus .value) (i .switches .on .on))
+    ∷ onCore (noteMethodAvailable (i .numbers .place .value) (i .switches .on .on))
+    ∷ onCore (noteMethodCanContinue (i .numbers .place .value) (i .switches .on .on))
     ∷ []
 
 -- ---- the queries
@@ -100,7 +100,7 @@ unfoldable pub phoneCall : ℕ → Items → Bytes → Call
 phoneCall n i b = getD (phoneCalls i b) n (newCall i)
 
 unfoldable pub canCall : ℕ → Items → Bytes → Call
-canCall n i b = getD (canCalls i b) n (change approveCanReadWrite)
+canCall n i b = getD (canCalls i b) n approveCanReadWrite
 
 unfoldable pub plainQuery : ℕ → Items → Bytes → Query
 plainQuery n i b = getD (plainQueries i b) n isCanReadOnly

@@ -8,9 +8,9 @@ use Rattle.state.specs.declared.Core.{Core}
 use Rattle.state.specs.declared.Answer.the-variants.{Done}
 use Rattle.state.specs.declared.Said.{Said}
 use Rattle.state.specs.Parts.{withPolicy, withProbe}
-use Rattle.state.specs.Replies.{leave, quiet}
+use Rattle.state.specs.Replies.{leave, quiet, yesNo}
 use Rattle.policy.specs.Policy.{fingerprintConfirmed, isReadOnly}
-use Rattle.policy_changes.specs.Changes.{withBuses, withVehicleReadOnly, yesNo, policyChanged, relocked}
+use Rattle.policy_changes.specs.Changes.{withBuses, withVehicleReadOnly, policyChanged, relocked}
 
 -- ---- the vehicle's flag
 

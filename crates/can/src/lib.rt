@@ -29,7 +29,7 @@ pub fn set_can_read_only(core: Core, enabled: bool) -> Said
     let mut buses = policy.buses;
     buses.vehicle_read_only = flag;
     let p = policy_changes::with_buses(policy, buses);
-    let answer = policy_changes::yes_no(policy::is_can_read_only(p));
+    let answer = state::replies::yes_no(policy::is_can_read_only(p));
     if enabled {
         let probe = core.probe;
         let counted = policy_changes::relocked(probe);

@@ -2,44 +2,20 @@
 use state::Answer;
 use state::Car;
 use state::Core;
-use state::Policy;
 use state::Said;
-use state::Validations;
 ghost use mathlib.Core.Path.{_≡_};
-ghost use Rattle.can_access.specs.Approval.{approvedAs, ofOtherCar, restoreApproval, revokeApproval};
+ghost use Rattle.can_access.specs.Approval.{restoreApproval, revokeApproval};
 ghost use Rattle.can_access.specs.Approval as Approval;
 
-// There are validations, and they are of another car.
-fn of_other_car(v: Validations, car: [u8; 32]) -> bool
-    ensures { λ r. ⌜ r ≡ ofOtherCar v car ⌝ }
-{
-    let phones = v.phones;
-    if 0 < phones::count(phones) {
-        let of = v.car;
-        return !arrays::same_bytes(&of, &car);
-    }
-    false
+// What an approval says: the lists stay, or the store is emptied.
+pub struct Approved {
+    pub said: Said,
+    pub empties: bool,
 }
 
-fn approved_as(core: Core, car: Car, policy: Policy) -> Said
-    ensures { λ r. ⌜ r ≡ approvedAs core car policy ⌝ }
-{
-    let value = policy::is_can_read_only(policy);
-    let c = state::parts::with_policy(core, policy);
-    let validations = core.validations;
-    let digest = car.digest;
-    if of_other_car(validations, digest) {
-        let none = validations::no_validations();
-        let cleared = state::parts::with_validations(c, none);
-        let signals = state::replies::approval_cleared(car, value);
-        return state::replies::reply(cleared, Answer::Done, signals);
-    }
-    let signals = state::replies::approval_changed(car, value);
-    state::replies::reply(c, Answer::Done, signals)
-}
-
-pub fn approve_can_read_write(core: Core) -> Said
-    ensures { λ r. ⌜ r ≡ Approval.approve core ⌝ }
+// `other`: the stored validations are of another car.
+pub fn approve_can_read_write(core: Core, other: bool) -> Approved
+    ensures { λ r. ⌜ r ≡ Approval.approve core other ⌝ }
 {
     let policy = core.policy;
     let identity = policy.identity;
@@ -48,9 +24,20 @@ pub fn approve_can_read_write(core: Core) -> Said
         let mut access = policy.access;
         access.approval = car;
         let p = policy_changes::with_access(policy, access);
-        return approved_as(core, car, p);
+        let value = policy::is_can_read_only(p);
+        let raised = state::replies::approval_changed(car, value, other);
+        let c = state::parts::with_policy(core, p);
+        let said = state::replies::reply(c, Answer::Done, raised);
+        return Approved {
+            said,
+            empties: other,
+        };
     }
-    state::replies::leave(core, Answer::CarNotIdentified)
+    let said = state::replies::leave(core, Answer::CarNotIdentified);
+    Approved {
+        said,
+        empties: false,
+    }
 }
 
 pub fn revoke_can_read_write_approval(core: Core) -> Said
@@ -61,10 +48,10 @@ pub fn revoke_can_read_write_approval(core: Core) -> Said
     let mut access = policy.access;
     access.approval = none;
     let p = policy_changes::with_access(policy, access);
-    let value = policy::is_can_read_only(p);
-    let signals = state::replies::approval_changed(none, value);
+    let readonly = policy::is_can_read_only(p);
+    let raised = state::replies::approval_changed(none, readonly, false);
     let c = state::parts::with_policy(core, p);
-    state::replies::reply(c, Answer::Done, signals)
+    state::replies::reply(c, Answer::Done, raised)
 }
 
 // A lent digest, or none.

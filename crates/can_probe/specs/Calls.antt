@@ -12,12 +12,12 @@ use Rattle.state.specs.declared.Core.{Core}
 use Rattle.state.specs.declared.Answer.{Answer}
 use Rattle.state.specs.declared.Answer.the-variants.{Done, Yes, No, Invalid, NotNeeded, Logging, BusAsleep, Busy, NoAttemptsLeft}
 use Rattle.state.specs.declared.Said.{Said}
-use Rattle.state.specs.Parts.{withProbe}
+use Rattle.state.specs.Parts.{withProbe, withWindow, withAttempts, withMarks}
 use Rattle.range.specs.Range.{within}
 use Rattle.state.specs.Replies.{readOnlyChanged, leave, quiet, reply}
 use Rattle.state.specs.Checks.{_refuses_, checked}
 use Rattle.policy.specs.Policy.{isReadOnly, isFdBus}
-use Rattle.probe_window.specs.Window.{withWindow, markOf, isBusAwake, probeNeeded, idsInRange, noWindow, newWindow}
+use Rattle.probe_window.specs.Window.{markOf, isBusAwake, probeNeeded, idsInRange, noWindow, newWindow}
 
 -- ---- open and close
 
@@ -33,7 +33,7 @@ windowChanged c a b = reply (withProbe c b) a (readOnlyChanged (isReadOnly (c .p
 -- open_identity_probe
 unfoldable pub openProbe : Core → ℕ → List ProbeFrame → ℕ → ℕ → Said
 openProbe c bus frames count clock =
-    checked c
+    checked (leave c)
     ((not (isValidProbe (c .policy) bus frames count) refuses Invalid) ∷  -- 17
     (not (probeNeeded (c .policy .identity)) refuses NotNeeded) ∷  -- 12
     (c .policy .buses .logging refuses Logging) ∷  -- 13
@@ -41,12 +41,7 @@ openProbe c bus frames count clock =
     (c .probe .window .present refuses Busy) ∷  -- 15
     (leb 5 (c .probe .attempts) refuses NoAttemptsLeft) ∷ [])  -- 16
     (windowChanged c Done
-    (record {
-      window = newWindow bus (take count frames) clock (c .probe .relocks);
-      attempts = c .probe .attempts + 1;
-      relocks = c .probe .relocks;
-      marks = c .probe .marks;
-    }))
+    (withAttempts (withWindow (c .probe) (newWindow bus (take count frames) clock (c .probe .relocks))) (c .probe .attempts + 1)))
 
 -- ProbeWindow's drop; no, without a signal, if none was opened since the last close
 unfoldable pub closeProbe : Core → Said
@@ -58,5 +53,5 @@ closeProbe c = cond (c .probe .window .present) (windowChanged c Yes (withWindow
 unfoldable pub heard : Core → ℕ → ℕ → Said
 heard c bus clock =
     cond (busExists bus)
-    (quiet (withProbe c (record { window = c .probe .window; attempts = c .probe .attempts; relocks = c .probe .relocks; marks = set (c .probe .marks) bus (markOf clock) })) Done)
+    (quiet (withProbe c (withMarks (c .probe) (set (c .probe .marks) bus (markOf clock)))) Done)
     (leave c Done)

@@ -80,7 +80,7 @@ pub fn close_identity_probe(core: Core) -> Said
     let b = core.probe;
     if b.window.present {
         let none = probe_window::no_window();
-        let closed = probe_window::with_window(b, none);
+        let closed = state::parts::with_window(b, none);
         return window_changed(core, Answer::Yes, closed);
     }
     state::replies::leave(core, Answer::No)

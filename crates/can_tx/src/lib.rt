@@ -24,7 +24,7 @@ fn passed(core: Core, found: Unsent) -> Said
             let b = core.probe;
             let w = b.window;
             let marked = probe_window::marked_sent(w, i);
-            let next = probe_window::with_window(b, marked);
+            let next = state::parts::with_window(b, marked);
             let c = state::parts::with_probe(core, next);
             state::replies::quiet(c, Answer::Yes)
         }
@@ -67,36 +67,36 @@ fn allow_platform(core: Core, bus: u8, frame: CanFrame, clock: u64) -> Said
     state::replies::leave(core, Answer::Yes)
 }
 
-fn allows_command(core: Core, bus: u8, frame: CanFrame, owner: &[u8]) -> bool
-    ensures { λ r. ⌜ r ≡ allowsCommand core bus frame (now (owner .entry)) ⌝ }
+fn allows_command(policy: Policy, bus: u8, frame: CanFrame, validated: bool) -> bool
+    ensures { λ r. ⌜ r ≡ allowsCommand policy bus frame validated ⌝ }
 {
     if frame.bus == bus {
-        let policy = core.policy;
         if policy::is_can_bus_read_only(policy, bus) {
             return false;
         }
-        return phone_trust::is_phone_validated(core, owner);
+        return validated;
     }
     false
 }
 
-// `owner` is the phone that a command is for; for a platform frame it is not looked at.
+// `validated`: the phone that a command is for is; for a platform frame it is not looked at.
 pub fn allow_can_tx(
     core: Core,
     bus: u8,
     frame: CanFrame,
     class: TxClass,
-    owner: &[u8],
+    validated: bool,
     clock: u64,
 ) -> Said
-    ensures { λ r. ⌜ r ≡ Tx.allow core bus frame class (now (owner .entry)) clock ⌝ }
+    ensures { λ r. ⌜ r ≡ Tx.allow core bus frame class validated clock ⌝ }
 {
     let id = frame.id;
     if frames::can_id_in_range(id) {
         return match class {
             TxClass::Platform => allow_platform(core, bus, frame, clock),
             TxClass::Command => {
-                let answer = policy_changes::yes_no(allows_command(core, bus, frame, owner));
+                let policy = core.policy;
+                let answer = state::replies::yes_no(allows_command(policy, bus, frame, validated));
                 state::replies::leave(core, answer)
             }
         };

@@ -3,7 +3,8 @@ use mathlib.Core.Path.{refl}
 use mathlib.Core.List.{List, _++_, map-append}
 use Prim.Native.Nat.{ℕ}
 use Rattle.arrays.specs.Arrays.{padded, sameBytes}
-use Rattle.phones.specs.Phones.{allInRange, idBytes, idInRange, idOf, listInRange, listOf, phonesOf, someOf, tooLong}
+use Rattle.phones.specs.Ids.{someOf, pushed}
+use Rattle.phones.specs.Phones.{allInRange, idBytes, idInRange, idOf, listInRange, listOf, phonesOf, tooLong}
 use Rattle.frames.specs.Frames.{isEntry}
 use Rattle.draw.specs.Draw.{digits, drawLimit, drawn, firstBelow, group}
 use Rattle.text.specs.Utf8.{begins3, begins4, decode, decode2, decode3, decode4, encode, encodeAll, scalar, scalars, utf8-2, utf8-3, utf8-4, within}
@@ -15,12 +16,12 @@ use Rattle.hex.specs.Hex.{digit, hexOf}
 use Rattle.listing.specs.Listing.{line, phoneLines, acceptedLines, refusedLines, linesOf, lines}
 use Rattle.state.specs.Running as Running
 use Rattle.state.specs.Checks as Checks
+use Rattle.state.specs.View as View
 use Rattle.range.specs.Range as Range
 use Rattle.state.specs.Replies as Replies
 use Rattle.policy.specs.Policy as Policy
 use Rattle.policy_changes.specs.Changes as Changes
 use Rattle.car_identity.specs.CarIdentity as CarIdentity
-use Rattle.phone_trust.specs.Trust as Trust
 use Rattle.validations.specs.Store as Store
 use Rattle.probe_window.specs.Window as Window
 use Rattle.can_probe.specs.Calls as Probe
@@ -65,15 +66,15 @@ unfolding Range.methodsFit Running.cleanMethod Running.methodAt Running.inProgre
 openState2 = tt
 
 unfoldable openState3 : Unit {0}
-unfolding Range.sessionFits Range.windowFits Range.phonesFit Range.inRange Replies.noSignals Replies.phoneAccessChanged
+unfolding Range.sessionFits Range.windowFits Range.coreFits Range.inRange Replies.noSignals Replies.nothingRaised Replies.phoneAccessChanged
 openState3 = tt
 
 unfoldable openState4 : Unit {0}
-unfolding Replies.readOnlyChanged Replies.challengeChanged Replies.validated Replies.leave Replies.quiet Replies.reply
+unfolding Replies.readOnlyChanged Replies.challengeChanged Replies.leave Replies.quiet Replies.reply Replies.notified
 openState4 = tt
 
 unfoldable openState5 : Unit {0}
-unfolding Replies.finish Range.served Replies.fill
+unfolding Replies.finish View.view
 openState5 = tt
 
 unfoldable openAccess1 : Unit {0}
@@ -89,7 +90,7 @@ unfolding CarIdentity.confirmPlatform
 openAccess3 = tt
 
 unfoldable openPhones : Unit {0}
-unfolding Store.recordFor Store.restore Trust.notified Store.isFull Store.validate
+unfolding pushed Store.recordFor Store.restore Store.isFull Store.isOfCar Store.validating
 openPhones = tt
 
 unfoldable openProbe1 : Unit {0}
@@ -121,7 +122,7 @@ unfolding Validation.newSession Validation.challengeFor Validation.begin Validat
 openSessions4 = tt
 
 unfoldable openSessions5 : Unit {0}
-unfolding Validation.succeededCore Validation.succeed Validation.fullFor Validation.failedCore Validation.triedCore
+unfolding Validation.succeededCore Validation.succeed Validation.failedCore Validation.triedCore
 openSessions5 = tt
 
 unfoldable openSessions6 : Unit {0}
@@ -133,7 +134,7 @@ unfolding Query.answerTo Answers.ifInRange Answers.recordAnswer Answers.isShown 
 openAnswers = tt
 
 unfoldable openGate : Unit {0}
-unfolding New.newMethods New.newCore New.newGate Gate.changed Gate.step Holds
+unfolding New.newMethods New.newCore New.madeCore New.newGate Gate.saying Gate.served Gate.ended Gate.listing Gate.said Gate.says Gate.left Gate.gives Gate.step Holds
 openGate = tt
 
 unfoldable openAll : Unit {0}

@@ -6,6 +6,7 @@ use Prim.Native.Nat.{ℕ}
 use Prim.Native.String.{String}
 use lib.ListN.{getD, replicate}
 use Rattle.arrays.specs.Arrays.{padded}
+use Rattle.phones.specs.declared.PhoneList.{PhoneList}
 use Rattle.phones.specs.Phones.{idOf}
 use Rattle.frames.specs.declared.Id.the-variants.{Standard}
 use Rattle.frames.specs.declared.ProbeFrame.{ProbeFrame}
@@ -28,7 +29,7 @@ use Rattle.policy_changes.specs.Changes.{withIdentity}
 use Rattle.probe_window.specs.Window.{isBusAwake, isOpen}
 use Rattle.answers.specs.Query.{Reply, saved, isCanBusListenOnly, sessionFor, encodePhoneValidations}
 use Rattle.new_gate.specs.New.{newGate, leastSettings}
-use Rattle.definition.specs.Gate.{Call, newGateCall, startValidation, submitValidationCode, change, ask, tickValidation, confirmCarIdentity, openIdentityProbe, allowCanTx, heardCanFrame, restorePhoneValidations, step, afterAll}
+use Rattle.definition.specs.Gate.{Call, newGateCall, startValidation, submitValidationCode, onSession, onLists, onCore, ask, tickValidation, confirmCarIdentity, openIdentityProbe, allowCanTx, heardCanFrame, restorePhoneValidations, step, afterAll}
 
 -- ---- a row: what is looked at, and what 01 says of it
 
@@ -38,7 +39,7 @@ pub data Observed : Type 0 where
   answer : Numbered → Observed  -- a call's answer
   mark : ℕ → Observed  -- the receive mark of a bus
   truth : Bool → Observed  -- a definition that is no call: a bus is awake, a window is open
-  reply : Reply → Observed  -- the whole reply to a query
+  reply : Reply PhoneList → Observed  -- the whole reply to a query
   printed : List ℕ → Observed  -- the bytes that the listing program prints
 
 pub record Row : Type 0 where
@@ -93,12 +94,13 @@ new = afterAll (newGate leastSettings [] 0 .gate) (newGateCall settings (method 
 
 -- the platform is confirmed and the car is not
 abbrev pub platform : Gate
-platform = afterAll new (change confirmCarIdentity ∷ [])
+platform = afterAll new (onCore confirmCarIdentity ∷ [])
 
 -- the car is known too. It is set by hand: the call would take the SHA-256 of a fingerprint, and no case is about that
 abbrev pub knownCar : Gate
 knownCar = record {
   core = withPolicy (new .core) (withIdentity (new .core .policy) (record { platform = 0; confirmed = true; car = record { known = true; digest = replicate 32 0x11 } }));
+  phones = new .phones;
   code = new .code;
 }
 
@@ -146,7 +148,7 @@ p6 =
     (answerAfter knownCar [] (start 1_000) gives running 60) ∷
     (answerAfter knownCar (start 1_000 ∷ []) (ask (sessionFor phone 60_001)) gives running 1) ∷
     (answerAfter knownCar (start 1_000 ∷ []) (ask (sessionFor phone 61_000)) gives running 0) ∷
-    (answerAfter knownCar (start 1_000 ∷ change (tickValidation 61_000) ∷ []) (ask (sessionFor phone 61_000)) gives says (sessionOf TimedOut 3 0 0)) ∷ []
+    (answerAfter knownCar (start 1_000 ∷ onSession (tickValidation 61_000) ∷ []) (ask (sessionFor phone 61_000)) gives says (sessionOf TimedOut 3 0 0)) ∷ []
 
 abbrev pub wrong : ℕ → Call
 wrong clock = submitValidationCode phone (ascii "0000") clock
@@ -161,17 +163,17 @@ p7 =
 -- ---- P8 to P11: bus 0 and its probe
 
 abbrev pub heard : ℕ → Call
-heard clock = change (heardCanFrame 0 clock)
+heard clock = onCore (heardCanFrame 0 clock)
 
 abbrev pub entry : ProbeFrame
 entry = record { id = Standard 0x7DF; «data» = 2 ∷ 1 ∷ 0 ∷ 0 ∷ 0 ∷ 0 ∷ 0 ∷ 0 ∷ [] }
 
 -- a window for two equal entries, and a frame that is such an entry
 abbrev pub openProbe : ℕ → Call
-openProbe clock = change (openIdentityProbe 0 (entry ∷ entry ∷ []) 2 clock)
+openProbe clock = onCore (openIdentityProbe 0 (entry ∷ entry ∷ []) 2 clock)
 
 abbrev pub sendEntry : ℕ → Call
-sendEntry clock = change (allowCanTx 0 (record { bus = 0; id = entry .id; «data» = entry .data; dlc = 8 }) Platform [] clock)
+sendEntry clock = onCore (allowCanTx 0 (record { bus = 0; id = entry .id; «data» = entry .data; dlc = 8 }) Platform [] clock)
 
 -- whether the bus is awake; an opening on one that is asleep is refused by 14
 abbrev pub awake : List Call → ℕ → Observed
@@ -221,7 +223,7 @@ abbrev pub theRecord : List ℕ
 theRecord = 0x01 ∷ replicate 32 0x11 ++ (0x01 ∷ 0x02 ∷ 0xA1 ∷ 0xB2 ∷ [])
 
 abbrev pub restore : List ℕ → Call
-restore bytes = change (restorePhoneValidations bytes)
+restore bytes = onLists (restorePhoneValidations bytes)
 
 abbrev pub writtenAfter : List Call → Observed
 writtenAfter cs = reply (step (afterAll new cs) (ask encodePhoneValidations) .answer)

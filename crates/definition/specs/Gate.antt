@@ -1,10 +1,13 @@
--- The gate: every call of document 01, and the one definition of what each gives, `step`.
+-- The gate: every call of document 01, what each says, and the one definition of what it gives, `step`.
 use mathlib.Core.Path.{_≡_}
 use mathlib.Core.Bool.{Bool, true, false, cond}
 use mathlib.Core.List.{List, [], _∷_}
 use Prim.Native.Nat.{ℕ}
 use lib.Dec.{ltb}
 use lib.ListN.{length}
+use Rattle.phones.specs.declared.PhoneList.{PhoneList}
+use Rattle.phones.specs.Ids.{Left, stays, becomes, afterwards}
+use Rattle.phones.specs.Phones.{idBytes, listOf}
 use Rattle.frames.specs.declared.CanFrame.{CanFrame}
 use Rattle.frames.specs.declared.ProbeFrame.{ProbeFrame}
 use Rattle.frames.specs.declared.TxClass.{TxClass}
@@ -13,125 +16,250 @@ use Rattle.text.specs.Text.{isText, right}
 use Rattle.state.specs.declared.Car.{Car}
 use Rattle.state.specs.declared.Method.{Method}
 use Rattle.state.specs.declared.Settings.{Settings}
+use Rattle.state.specs.declared.Session.{Session}
 use Rattle.state.specs.declared.Core.{Core}
 use Rattle.state.specs.declared.Gate.{Gate}
+use Rattle.state.specs.declared.Answer.the-variants.{BadSettings}
+use Rattle.state.specs.declared.Raised.{Raised}
 use Rattle.state.specs.declared.Signals.{Signals}
 use Rattle.state.specs.declared.Said.{Said}
+use Rattle.state.specs.declared.Ended.{Ended}
 use Rattle.state.specs.declared.Outcome.{Outcome}
 use Rattle.state.specs.Answers.{Numbered, numbered}
-use Rattle.state.specs.Replies.{noSignals, noCode, fill}
-use Rattle.range.specs.Range.{served}
+use Rattle.state.specs.Replies.{noS, sentS, nothingRaised, sending, noSignals, noCode, codeAt, showing}
+use Rattle.state.specs.View.{Store, Lists, View, Listing, view, laidPhones}
+use Rattle.range.specs.Range.{inRange}
+use Rattle.can_access.specs.declared.Approved.{Approved}
 use Rattle.can_access.specs.Approval as Access
 use Rattle.dev_lock.specs.DevLock as DevLock
 use Rattle.car_identity.specs.CarIdentity as CarIdentity
 use Rattle.can.specs.Can as Can
 use Rattle.pairing.specs.Pairing as Pairing
-use Rattle.validations.specs.Store as Store
+use Rattle.validations.specs.Store as Validations
+use Rattle.validations.specs.Store.{noStore, recordFor, isFull, isOfOtherCar, validating}
+use Rattle.phone_trust.specs.Trust.{isValidated}
 use Rattle.can_probe.specs.Calls as Probe
 use Rattle.can_tx.specs.Tx as Tx
 use Rattle.validation.specs.Calls as Validation
+use Rattle.validation.specs.Calls.{unvalidated}
 use Rattle.methods.specs.Notes as Methods
+use Rattle.answers.specs.Query as Query
 use Rattle.answers.specs.Query.{Query, Reply, plain, numberedReply, answerTo}
-use Rattle.new_gate.specs.New.{newGate}
+use Rattle.new_gate.specs.New.{madeCore}
 
--- ---- the calls
+-- ---- the calls. Those of a session, those on the lists and those on the core alone are told apart by type. Start and submit stand
+-- alone, since demand 3 lets the random bytes and the typed code differ between its two runs; approve does, since it changes the core
+-- and may empty the store
 
--- the calls that change the gate and are given the same arguments in both runs of demand 3
-pub data Change : Type 0 where
-  cancelValidation : (phone : List ℕ) (clock : ℕ) → Change
-  completeValidationAction : (session clock : ℕ) → Change
-  tickValidation : (clock : ℕ) → Change
-  addPairedPhone removePairedPhone : (id : List ℕ) → Change
-  clearPairedPhones : Change
-  forgetPhoneValidation : (id : List ℕ) → Change
-  prunePhoneValidations : Change
-  setBlePeer : (id : List ℕ) → Change
-  restorePhoneValidations : (bytes : List ℕ) → Change
-  approveCanReadWrite revokeCanReadWriteApproval : Change
-  restoreCanReadWriteApproval : (approval : Car) → Change
-  setCanDevWriteUnlocked : (unlocked : Bool) → Change
-  declareProductionBuild confirmCarIdentity revokeCarIdentity : Change
-  confirmCarFingerprint : (fingerprint : List ℕ) → Change
-  setCanReadOnly : (enabled : Bool) → Change
-  openIdentityProbe : (bus : ℕ) (frames : List ProbeFrame) (count clock : ℕ) → Change
-  closeIdentityProbe : Change
-  allowCanTx : (bus : ℕ) (frame : CanFrame) (class : TxClass) (owner : List ℕ) (clock : ℕ) → Change
-  heardCanFrame : (bus clock : ℕ) → Change
-  notePlatformId : (number : ℕ) → Change
-  noteCanLogging : (on : Bool) → Change
-  noteCanFdBus : (bus : ℕ) (on : Bool) → Change
-  noteMethodAvailable noteMethodCanContinue : (place : ℕ) (on : Bool) → Change
+pub data SessionCall : Type 0 where
+  cancelValidation : (phone : List ℕ) (clock : ℕ) → SessionCall
+  completeValidationAction : (session clock : ℕ) → SessionCall
+  tickValidation : (clock : ℕ) → SessionCall
+
+pub data ListCall : Type 0 where
+  addPairedPhone removePairedPhone : (id : List ℕ) → ListCall
+  clearPairedPhones : ListCall
+  forgetPhoneValidation : (id : List ℕ) → ListCall
+  prunePhoneValidations : ListCall
+  restorePhoneValidations : (bytes : List ℕ) → ListCall
+
+pub data CoreCall : Type 0 where
+  setBlePeer : (id : List ℕ) → CoreCall
+  revokeCanReadWriteApproval : CoreCall
+  restoreCanReadWriteApproval : (approval : Car) → CoreCall
+  setCanDevWriteUnlocked : (unlocked : Bool) → CoreCall
+  declareProductionBuild confirmCarIdentity revokeCarIdentity : CoreCall
+  confirmCarFingerprint : (fingerprint : List ℕ) → CoreCall
+  setCanReadOnly : (enabled : Bool) → CoreCall
+  openIdentityProbe : (bus : ℕ) (frames : List ProbeFrame) (count clock : ℕ) → CoreCall
+  closeIdentityProbe : CoreCall
+  allowCanTx : (bus : ℕ) (frame : CanFrame) (class : TxClass) (owner : List ℕ) (clock : ℕ) → CoreCall
+  heardCanFrame : (bus clock : ℕ) → CoreCall
+  notePlatformId : (number : ℕ) → CoreCall
+  noteCanLogging : (on : Bool) → CoreCall
+  noteCanFdBus : (bus : ℕ) (on : Bool) → CoreCall
+  noteMethodAvailable noteMethodCanContinue : (place : ℕ) (on : Bool) → CoreCall
 
 pub data Call : Type 0 where
   newGateCall : (settings : Settings) (methods : List Method) (count : ℕ) → Call
   startValidation : (phone method : List ℕ) (clock : ℕ) (random : List ℕ) → Call
   submitValidationCode : (phone typed : List ℕ) (clock : ℕ) → Call
-  change : Change → Call
+  onSession : SessionCall → Call
+  onLists : ListCall → Call
+  approveCanReadWrite : Call
+  onCore : CoreCall → Call
   ask : Query → Call
 
--- ---- what a call gives
+-- ---- what a call says
 
--- the answer by document 01's number and values, and as it is returned
-pub record Given : Type 0 where
-  pub numbered : Numbered
-  pub answer : Reply
-  pub signals : Signals
-  pub gate : Gate
+-- its answer, with lists by their ids; what it sends, and whether S too; and what becomes of each part of the gate
+pub record Says : Type 0 where
+  pub answer : Reply (List (List ℕ))
+  pub raised : Raised
+  pub stores : Bool
+  pub core : Core
+  pub paired : Left (List (List ℕ))
+  pub store : Left Store
+  pub code : List ℕ
 
-abbrev pub given : Outcome → Given
-given o = record { numbered = numbered (o .answer); answer = plain (o .answer); signals = o .signals; gate = o .gate }
+-- an operation is not given the digits: it marks where there are none, where the gate's stay, and where those drawn by this call go
+unfoldable pub saying : View → List ℕ → Said → Bool → Left Store → Says
+saying v drawn o stores store = record {
+  answer = plain (o .answer);
+  raised = showing (codeAt (v .code) drawn (o .shows)) (o .raised);
+  stores = stores;
+  core = o .core;
+  paired = stays;
+  store = store;
+  code = codeAt (v .code) drawn (o .code);
+}
+
+-- an operation on the core leaves the lists
+abbrev pub ofCore : View → List ℕ → Said → Says
+ofCore v drawn o = saying v drawn o false stays
+
+-- a session that succeeds validates its phone for its car
+abbrev pub validates : Store → Session → Bool → Left Store
+validates s e false = stays
+validates s e true = validating s (e .car) (idBytes (e .phone))
+
+abbrev pub ofSession : View → Ended → Says
+ofSession v e = saying v noCode (e .said) (e .validates) (validates (v .lists .store) (e .said .core .validation .session) (e .validates))
+
+-- an approval leaves the lists, or empties the store
+abbrev pub empties : Bool → Left Store
+empties false = stays
+empties true = becomes noStore
+
+abbrev pub ofApproval : View → Approved → Says
+ofApproval v a = saying v noCode (a .said) (a .empties) (empties (a .empties))
+
+-- an operation on the lists leaves the core and the digits
+abbrev pub ofLists : View → Listing → Says
+ofLists v x = record {
+  answer = plain (x .answer);
+  raised = x .raised;
+  stores = x .stores;
+  core = v .core;
+  paired = x .paired;
+  store = x .store;
+  code = v .code;
+}
 
 -- a query changes nothing and raises nothing
-abbrev pub asked : Gate → Reply → Given
-asked g r = record { numbered = numberedReply r; answer = r; signals = noSignals; gate = g }
+abbrev pub asked : View → Reply (List (List ℕ)) → Says
+asked v r = record { answer = r; raised = nothingRaised; stores = false; core = v .core; paired = stays; store = stays; code = v .code }
 
--- ---- each change, on a core in range
+-- 01, New gate: a gate out of range gets 25 first, and stays unchanged
+unfoldable pub served : View → Says → Says
+served v s = cond (inRange v) s (asked v (plain BadSettings))
 
-unfoldable pub changed : Core → Change → Said
-changed c (cancelValidation phone clock) = Validation.cancel c phone clock
-changed c (completeValidationAction session clock) = Validation.complete c session clock
-changed c (tickValidation clock) = Validation.tick c clock
-changed c (addPairedPhone id) = Pairing.pair c id
-changed c (removePairedPhone id) = Pairing.unpair c id
-changed c clearPairedPhones = Pairing.clear c
-changed c (forgetPhoneValidation id) = Store.forget c id
-changed c prunePhoneValidations = Store.prune c
-changed c (setBlePeer id) = Pairing.setPeer c id
-changed c (restorePhoneValidations bytes) = Store.restore c bytes
-changed c approveCanReadWrite = Access.approve c
-changed c revokeCanReadWriteApproval = Access.revokeApproval c
-changed c (restoreCanReadWriteApproval approval) = Access.restoreApproval c approval
-changed c (setCanDevWriteUnlocked unlocked) = DevLock.setDevUnlocked c unlocked
-changed c declareProductionBuild = DevLock.declareProduction c
-changed c confirmCarIdentity = CarIdentity.confirmPlatform c
-changed c revokeCarIdentity = CarIdentity.revokePlatform c
-changed c (confirmCarFingerprint fingerprint) = CarIdentity.confirmFingerprint c fingerprint
-changed c (setCanReadOnly enabled) = Can.setReadOnly c enabled
-changed c (openIdentityProbe bus frames count clock) = Probe.openProbe c bus frames count clock
-changed c closeIdentityProbe = Probe.closeProbe c
-changed c (allowCanTx bus frame class owner clock) = Tx.allow c bus frame class owner clock
-changed c (heardCanFrame bus clock) = Probe.heard c bus clock
-changed c (notePlatformId number) = CarIdentity.notePlatform c number
-changed c (noteCanLogging on) = Can.noteLogging c on
-changed c (noteCanFdBus bus on) = Can.noteFdBus c bus on
-changed c (noteMethodAvailable place on) = Methods.noteAvailable c place on
-changed c (noteMethodCanContinue place on) = Methods.noteContinue c place on
+-- ---- each call, on a gate in range
 
--- ---- the one definition
+-- `full`: this car's list is full without the session's phone
+unfoldable pub ended : Core → Bool → SessionCall → Ended
+ended c full (cancelValidation phone clock) = unvalidated (Validation.cancel c phone clock)
+ended c full (completeValidationAction session clock) = Validation.complete c session clock full
+ended c full (tickValidation clock) = unvalidated (Validation.tick c clock)
+
+-- `bonded`: the set limit
+unfoldable pub listing : Lists → ℕ → ListCall → Listing
+listing l bonded (addPairedPhone id) = Pairing.pair (l .paired) bonded id
+listing l bonded (removePairedPhone id) = Pairing.unpair l id
+listing l bonded clearPairedPhones = Pairing.clear l
+listing l bonded (forgetPhoneValidation id) = Validations.forget l id
+listing l bonded prunePhoneValidations = Validations.prune l
+listing l bonded (restorePhoneValidations bytes) = Validations.restore bytes
+
+unfoldable pub said : Core → Lists → CoreCall → Said
+said c l (setBlePeer id) = Pairing.setPeer c id
+said c l revokeCanReadWriteApproval = Access.revokeApproval c
+said c l (restoreCanReadWriteApproval approval) = Access.restoreApproval c approval
+said c l (setCanDevWriteUnlocked unlocked) = DevLock.setDevUnlocked c unlocked
+said c l declareProductionBuild = DevLock.declareProduction c
+said c l confirmCarIdentity = CarIdentity.confirmPlatform c
+said c l revokeCarIdentity = CarIdentity.revokePlatform c
+said c l (confirmCarFingerprint fingerprint) = CarIdentity.confirmFingerprint c fingerprint
+said c l (setCanReadOnly enabled) = Can.setReadOnly c enabled
+said c l (openIdentityProbe bus frames count clock) = Probe.openProbe c bus frames count clock
+said c l closeIdentityProbe = Probe.closeProbe c
+said c l (allowCanTx bus frame class owner clock) =
+    Tx.allow c bus frame class (isValidated (c .policy .identity) l owner) clock
+said c l (heardCanFrame bus clock) = Probe.heard c bus clock
+said c l (notePlatformId number) = CarIdentity.notePlatform c number
+said c l (noteCanLogging on) = Can.noteLogging c on
+said c l (noteCanFdBus bus on) = Can.noteFdBus c bus on
+said c l (noteMethodAvailable place on) = Methods.noteAvailable c place on
+said c l (noteMethodCanContinue place on) = Methods.noteContinue c place on
 
 -- some random byte is lent
 abbrev pub isLent : List ℕ → Bool
 isLent random = ltb 0 (length random)
 
+-- this car's list is full without the session's phone
+abbrev pub fullFor : View → Bool
+fullFor v = isFull (v .lists .store) (v .core .validation .session .car) (idBytes (v .core .validation .session .phone))
+
+unfoldable pub says : View → Call → Says
+says v (newGateCall settings methods count) =
+    let m = madeCore settings methods count in
+    record { answer = plain (m .answer); raised = nothingRaised; stores = false; core = m .core; paired = becomes []; store = becomes noStore; code = noCode }
+says v (startValidation phone method clock random) =
+    let d = drawn random (v .core .settings .digits) in
+    served v (ofCore v (d .code) (Validation.start (v .core) phone method clock (isLent random) (d .ok)))
+says v (submitValidationCode phone typed clock) =
+    let isRight = right (v .code) (v .core .settings .digits) typed in
+    served v (ofSession v (Validation.submit (v .core) phone clock (isText typed) isRight (fullFor v)))
+says v (onSession k) = served v (ofSession v (ended (v .core) (fullFor v) k))
+says v (onLists k) = served v (ofLists v (listing (v .lists) (v .core .settings .bonded) k))
+says v approveCanReadWrite =
+    served v (ofApproval v (Access.approve (v .core) (isOfOtherCar (v .lists .store) (v .core .policy .identity .car .digest))))
+says v (onCore k) = served v (ofCore v noCode (said (v .core) (v .lists) k))
+says v (ask q) = asked v (answerTo v q)
+
+-- ---- the one definition
+
+-- memory that a call was lent, as it leaves it: no call is lent any yet
+pub data Lent : Type 0 where
+  nothing : Lent
+
+-- what a call gives: the answer by document 01's number and values, and as it is returned; signals, lent memory, gate
+pub record Given : Type 0 where
+  pub numbered : Numbered
+  pub answer : Reply PhoneList
+  pub signals : Signals
+  pub lent : Lent
+  pub gate : Gate
+
+-- an answer as it is returned: a list in it is laid canonically
+abbrev pub laidReply : Reply (List (List ℕ)) → Reply PhoneList
+laidReply (plain a) = plain a
+laidReply (Query.approval a) = Query.approval a
+laidReply (Query.access a) = Query.access a
+laidReply (Query.phones a ps) = Query.phones a (listOf ps)
+laidReply (Query.trust a) = Query.trust a
+laidReply (Query.peer a) = Query.peer a
+laidReply (Query.phoneAccess a) = Query.phoneAccess a
+laidReply (Query.methods a) = Query.methods a
+laidReply (Query.challenge a) = Query.challenge a
+laidReply (Query.saved a) = Query.saved a
+
+-- the gate that a call leaves
+unfoldable pub left : Gate → Says → Gate
+left g s = record { core = s .core; phones = laidPhones (g .phones) (s .paired) (s .store); code = s .code }
+
+-- S, where it is sent, is the record of the store that is left
+unfoldable pub gives : Gate → Says → Given
+gives g s = record {
+  numbered = numberedReply (s .answer);
+  answer = laidReply (s .answer);
+  signals = sending (s .raised) (cond (s .stores) (sentS (recordFor (afterwards (view g .lists .store) (s .store)))) noS);
+  lent = nothing;
+  gate = left g s;
+}
+
 unfoldable pub step : Gate → Call → Given
-step g (newGateCall settings methods count) = given (newGate settings methods count)
-step g (startValidation phone method clock random) =
-    let d = drawn random (g .core .settings .digits) in
-    given (fill (g .code) (d .code) (served (g .core) (Validation.start (g .core) phone method clock (isLent random) (d .ok))))
-step g (submitValidationCode phone typed clock) =
-    given (fill (g .code) noCode (served (g .core) (Validation.submit (g .core) phone clock (isText typed) (right (g .code) (g .core .settings .digits) typed))))
-step g (change k) = given (fill (g .code) noCode (served (g .core) (changed (g .core) k)))
-step g (ask q) = asked g (answerTo (g .core) (g .code) q)
+step g k = gives g (says (view g) k)
 
 -- the gate that a call leaves
 abbrev pub after : Gate → Call → Gate
@@ -141,6 +269,15 @@ after g k = step g k .gate
 abbrev pub afterAll : Gate → List Call → Gate
 afterAll g [] = g
 afterAll g (k ∷ ks) = afterAll (after g k) ks
+
+-- ---- what code returns, as what a call gives
+
+abbrev pub given : Outcome → Given
+given o = record { numbered = numbered (o .answer); answer = plain (o .answer); signals = o .signals; lent = nothing; gate = o .gate }
+
+-- a query returns its answer alone
+abbrev pub answered : Gate → Reply PhoneList → Given
+answered g r = record { numbered = numberedReply r; answer = r; signals = noSignals; lent = nothing; gate = g }
 
 -- New gate gives this outcome, whatever gate was before it
 abbrev pub NewFrom : Outcome → Settings → List Method → ℕ → Type 0

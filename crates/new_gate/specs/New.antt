@@ -14,14 +14,14 @@ use Rattle.state.specs.declared.Session.{Session}
 use Rattle.state.specs.declared.Policy.{Policy}
 use Rattle.state.specs.declared.Probe.{Probe}
 use Rattle.state.specs.declared.Core.{Core}
-use Rattle.state.specs.declared.Gate.{Gate}
 use Rattle.state.specs.declared.Answer.{Answer}
 use Rattle.state.specs.declared.Answer.the-variants.{Done, BadSettings}
 use Rattle.state.specs.declared.Outcome.{Outcome}
 use Rattle.state.specs.Running.{noMethod, cleanMethod}
 use Rattle.range.specs.Range.{settingsFit, methodsIn}
 use Rattle.state.specs.Replies.{noCar, noSignals, noCode}
-use Rattle.validations.specs.Store.{noValidations}
+use Rattle.state.specs.View.{validationsOf}
+use Rattle.validations.specs.Store.{noStore}
 use Rattle.probe_window.specs.Window.{noWindow}
 
 abbrev pub noSession : Session
@@ -46,8 +46,6 @@ newCore settings methods = record {
   settings = settings;
   methods = methods;
   policy = newPolicy;
-  paired = listOf [];
-  validations = noValidations;
   peer = idOf [];
   validation = record { session = noSession; «cooldown_until» = 0; next = 1 };
   probe = newProbe;
@@ -57,12 +55,24 @@ newCore settings methods = record {
 abbrev pub leastSettings : Settings
 leastSettings = record { digits = 1; tries = 1; session = 1; cooldown = 0; keep = 0; bonded = 0 }
 
-abbrev pub madeGate : Answer → Core → Outcome
-madeGate a core = record { answer = a; signals = noSignals; gate = record { core = core; code = noCode } }
+-- the answer and the core of a new gate; 25 hands back one without methods, each setting at its least
+pub record Made : Type 0 where
+  pub answer : Answer
+  pub core : Core
 
--- 25 hands back a gate without methods, each setting at its least
-unfoldable pub newGate : Settings → List Method → ℕ → Outcome
-newGate settings list count =
+unfoldable pub madeCore : Settings → List Method → ℕ → Made
+madeCore settings list count =
     cond (settingsFit settings && methodsIn list count)
-    (madeGate Done (newCore settings (newMethods list count)))
-    (madeGate BadSettings (newCore leastSettings (newMethods [] 0)))
+    (record { answer = Done; core = newCore settings (newMethods list count) })
+    (record { answer = BadSettings; core = newCore leastSettings (newMethods [] 0) })
+
+-- with empty lists and no digits
+abbrev pub madeGate : Made → Outcome
+madeGate m = record {
+  answer = m .answer;
+  signals = noSignals;
+  gate = record { core = m .core; phones = record { paired = listOf []; store = validationsOf noStore }; code = noCode };
+}
+
+unfoldable pub newGate : Settings → List Method → ℕ → Outcome
+newGate settings list count = madeGate (madeCore settings list count)

@@ -9,6 +9,7 @@ use state::Identity;
 use state::Method;
 use state::Methods;
 use state::Outcome;
+use state::Phones;
 use state::Policy;
 use state::Probe;
 use state::Session;
@@ -122,8 +123,6 @@ fn new_core(settings: Settings, methods: Methods) -> Core
     ensures { λ r. ⌜ r ≡ newCore settings methods ⌝ }
 {
     let policy = new_policy();
-    let paired = phones::empty_list();
-    let validations = validations::no_validations();
     let bytes = [0u8; 32];
     let peer = ShortId { bytes, len: 0 };
     let session = no_session();
@@ -137,8 +136,6 @@ fn new_core(settings: Settings, methods: Methods) -> Core
         settings,
         methods,
         policy,
-        paired,
-        validations,
         peer,
         validation,
         probe,
@@ -146,11 +143,14 @@ fn new_core(settings: Settings, methods: Methods) -> Core
 }
 
 fn made_gate(answer: Answer, core: Core) -> Outcome
-    ensures { λ r. ⌜ r ≡ madeGate answer core ⌝ }
+    ensures { λ r. ⌜ r ≡ madeGate (record { answer = answer; core = core }) ⌝ }
 {
     let signals = state::replies::no_signals();
+    let paired = phones::empty_list();
+    let store = validations::no_validations();
+    let phones = Phones { paired, store };
     let code = [0u8; 9];
-    let gate = Gate { core, code };
+    let gate = Gate { core, phones, code };
     Outcome {
         answer,
         signals,
@@ -160,7 +160,7 @@ fn made_gate(answer: Answer, core: Core) -> Outcome
 
 // 25: no methods, each setting at its least.
 fn least_gate(list: [Method; 8]) -> Outcome
-    ensures { λ r. ⌜ r ≡ madeGate BadSettings (newCore leastSettings (newMethods [] 0)) ⌝ }
+    ensures { λ r. ⌜ r ≡ madeGate (record { answer = BadSettings; core = newCore leastSettings (newMethods [] 0) }) ⌝ }
 {
     let settings = Settings {
         digits: 1,

@@ -1,6 +1,5 @@
 pub mod Stores
-pub mod Frames
 pub mod Gains
-pub mod Runs
+pub mod Frames
 pub mod Proved
 pub mod Live

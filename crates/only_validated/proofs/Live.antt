@@ -6,7 +6,9 @@ use mathlib.Core.Bool.{false}
 use mathlib.Core.List.{List, [], _∷_, _++_}
 use lib.ListN.{replicate}
 use Rattle.arrays.specs.Arrays.{padded, sameBytes}
-use Rattle.phones.specs.Phones.{allInRange, appended, contains, idBytes, idInRange, idOf, kept, listInRange, listOf, phonesOf, removeAll, someOf, tooLong}
+use Rattle.phones.specs.declared.PhoneList.{PhoneList}
+use Rattle.phones.specs.Ids.{contains, kept, pushed, removeAll, someOf}
+use Rattle.phones.specs.Phones.{allInRange, idBytes, idInRange, idOf, listInRange, listOf, phonesOf, tooLong}
 use Rattle.frames.specs.declared.Id.the-variants.{Standard}
 use Rattle.frames.specs.declared.CanFrame.{CanFrame}
 use Rattle.frames.specs.declared.TxClass.the-variants.{Command}
@@ -17,16 +19,16 @@ use Rattle.text.specs.Utf8.{decode, encode, encodeAll}
 use Rattle.text.specs.Text.{isText, right, trim, trimFront, trimmed, white}
 use Rattle.text.specs.Utf8 as Utf8
 use Rattle.phone_fields.specs.PhoneFields.{anyLong, before, field, fields, overLimits, readFields}
-use Rattle.saved_record.specs.SavedRecord.{decoded, decodedBody, encoded, judged, nothingAfter, readCounted, readPhones, restored}
-use Rattle.state.specs.declared.Kind.the-variants.{CodeEntry, InCarAction}
+use Rattle.saved_record.specs.SavedRecord.{decoded, decodedBody, encoded, judged, nothingAfter, readCounted, readPhones}
+use Rattle.state.specs.declared.Kind.the-variants.{InCarAction}
 use Rattle.state.specs.declared.Method.{Method}
-use Rattle.state.specs.declared.Settings.{Settings}
 use Rattle.state.specs.declared.Gate.{Gate}
 use Rattle.state.specs.declared.Answer.the-variants.{Yes, No}
 use Rattle.state.specs.Running as Running
 use Rattle.state.specs.Checks.{checked}
 use Rattle.range.specs.Range as Range
 use Rattle.state.specs.Replies as Replies
+use Rattle.state.specs.View.{view, listsStay}
 use Rattle.policy.specs.Policy as Policy
 use Rattle.can_access.specs.Approval as Access
 use Rattle.dev_lock.specs.DevLock as DevLock
@@ -45,30 +47,22 @@ use Rattle.answers.specs.Query as Query
 use Rattle.answers.specs.Query.{Reply, plain}
 use Rattle.new_gate.specs.New as New
 use Rattle.definition.specs.Gate as Gate
-use Rattle.definition.specs.Gate.{Call, startValidation, submitValidationCode, change, ask, step, afterAll}
+use Rattle.definition.specs.Gate.{Call, startValidation, submitValidationCode, onSession, onLists, approveCanReadWrite, onCore, ask, step, afterAll}
+use Rattle.definition.specs.Cases.{settings, method, phone, start}
 use Rattle.only_validated.specs.Row.{carNow, WasValidated}
 use Rattle.only_validated.proofs.Proved.{only-validated}
 
--- ---- a new gate: 4 digits, 3 tries, a method of code entry and one of an in-car action
+-- ---- a new gate with the settings and the method of the cases, and a method of an in-car action
 
-abbrev settings : Settings
-settings = record { digits = 4; tries = 3; session = 60_000; cooldown = 30_000; keep = 10_000; bonded = 8 }
-
--- "code" and "act"
-abbrev code : List ℕ
-code = 99 ∷ 111 ∷ 100 ∷ 101 ∷ []
-
+-- "act"
 abbrev act : List ℕ
 act = 97 ∷ 99 ∷ 116 ∷ []
 
 abbrev methods : List Method
-methods = record { id = idOf code; kind = CodeEntry; «needs_approval» = false } ∷ record { id = idOf act; kind = InCarAction; «needs_approval» = false } ∷ []
+methods = method ∷ record { id = idOf act; kind = InCarAction; «needs_approval» = false } ∷ []
 
 abbrev first : Gate
 first = New.newGate settings methods 2 .gate
-
-abbrev phone : List ℕ
-phone = 0xA1 ∷ 0xB2 ∷ []
 
 abbrev other : List ℕ
 other = 0xC3 ∷ 0xD4 ∷ []
@@ -77,42 +71,42 @@ other = 0xC3 ∷ 0xD4 ∷ []
 
 -- the host confirms the bike with this fingerprint, and its owner approves it
 abbrev onBike : List ℕ → List Call
-onBike fingerprint = change (Gate.confirmCarFingerprint fingerprint) ∷ change Gate.approveCanReadWrite ∷ []
+onBike fingerprint = onCore (Gate.confirmCarFingerprint fingerprint) ∷ approveCanReadWrite ∷ []
 
 -- a production build on a bike, its buses read-write, with both phones paired
 abbrev ready : List Call
 ready =
-    change Gate.declareProductionBuild ∷
-    change Gate.confirmCarIdentity ∷
+    onCore Gate.declareProductionBuild ∷
+    onCore Gate.confirmCarIdentity ∷
     onBike (1 ∷ 2 ∷ 3 ∷ []) ++
-    (change (Gate.setCanReadOnly false) ∷
-    change (Gate.addPairedPhone phone) ∷
-    change (Gate.addPairedPhone other) ∷ [])
+    (onCore (Gate.setCanReadOnly false) ∷
+    onLists (Gate.addPairedPhone phone) ∷
+    onLists (Gate.addPairedPhone other) ∷ [])
 
--- the phone starts a session, and types the code: D2 04 00 00 draws 1234
+-- the phone starts a session whose code is 1234, and types it
 abbrev codeTyped : List Call
-codeTyped = startValidation phone code 1_000 (0xD2 ∷ 4 ∷ 0 ∷ 0 ∷ []) ∷ submitValidationCode phone (49 ∷ 50 ∷ 51 ∷ 52 ∷ []) 2_000 ∷ []
+codeTyped = start 1_000 ∷ submitValidationCode phone (49 ∷ 50 ∷ 51 ∷ 52 ∷ []) 2_000 ∷ []
 
 -- the phone starts a session, and the action is done in the car
 abbrev actionDone : List Call
-actionDone = startValidation phone act 1_000 [] ∷ change (Gate.completeValidationAction 1 2_000) ∷ []
+actionDone = startValidation phone act 1_000 [] ∷ onSession (Gate.completeValidationAction 1 2_000) ∷ []
 
 -- the host restores a record of this bike with the phone in it
 abbrev recordRestored : List Call
-recordRestored = change (Gate.restorePhoneValidations (encoded (carDigest 0 (1 ∷ 2 ∷ 3 ∷ []) .digest) (phone ∷ []))) ∷ []
+recordRestored = onLists (Gate.restorePhoneValidations (encoded (carDigest 0 (1 ∷ 2 ∷ 3 ∷ []) .digest) (phone ∷ []))) ∷ []
 
 abbrev forgotten : List Call
-forgotten = change (Gate.forgetPhoneValidation phone) ∷ []
+forgotten = onLists (Gate.forgetPhoneValidation phone) ∷ []
 
 -- ---- what a command gets after these calls
 
 abbrev frame : CanFrame
 frame = record { bus = 0; id = Standard 0x123; «data» = replicate 8 0; dlc = 8 }
 
-abbrev told : List Call → List ℕ → Reply
-told ks owner = step (afterAll first ks) (change (Gate.allowCanTx 0 frame Command owner 3_000)) .answer
+abbrev told : List Call → List ℕ → Reply PhoneList
+told ks owner = step (afterAll first ks) (onCore (Gate.allowCanTx 0 frame Command owner 3_000)) .answer
 
-abbrev readOnly : List Call → Reply
+abbrev readOnly : List Call → Reply PhoneList
 readOnly ks = step (afterAll first ks) (ask (Query.isCanBusReadOnly 0)) .answer
 
 pub record Examples : Type 0 where
@@ -130,7 +124,7 @@ pub record Examples : Type 0 where
   pub otherBus : readOnly (ready ++ codeTyped ++ onBike (4 ∷ [])) ≡ plain No
 
 pub examples : Examples
-unfolding padded sameBytes allInRange appended contains idBytes idInRange idOf kept listInRange listOf phonesOf removeAll someOf tooLong K padLast W rounds hashFrom sha256 domain carMessage carDigest digits drawLimit drawn firstBelow group decode encode encodeAll Utf8.within isText right trim trimFront trimmed white anyLong before decoded decodedBody encoded field fields judged overLimits readCounted readFields nothingAfter readPhones restored Range.within Range.settingsFit Range.allOf Range.printable Range.methodFits Range.allFit Range.methodsIn Range.methodsFit Running.methodAt Running.cleanMethod Running.inProgress Running.codeInProgress Range.triesFit Range.sessionFits Range.windowFits Range.phonesFit Range.inRange Range.served Replies.leave Replies.quiet Replies.reply Replies.finish Replies.fill Policy.fingerprintConfirmed Policy.isIdentified Policy.approvedCar Policy.allowsReadWrite Policy.isReadOnly Policy.isFdBus Policy.isBusReadOnly Changes.policyChanged Access.ofOtherCar Access.approvedAs Access.approve DevLock.declareProduction CarIdentity.confirmPlatform CarIdentity.confirmFingerprint Can.lockAsked Can.setReadOnly Trust.isPaired Trust.ofThisCar Trust.isValidated Store.storeOf Store.stored Store.forgetting Store.forget Store.restore Trust.notified Pairing.pair Store.isFull Store.validate Tx.allowsCommand Tx.allow Times.saturatingAdd Session.endedAs Session.isOf Session.lostReadWrite Session.noteAt Session.cannotGoOn Session.lapseOf Session.placeFrom Session.placeOf Times.nextNumber checked Validation.endSession Validation.runsFor Validation.startChecks Validation.newSession Validation.begin Validation.startAt Validation.start Validation.succeededCore Validation.succeed Validation.fullFor Validation.rightCode Validation.judge Validation.submitted Validation.submit Validation.isAction Validation.completed Validation.complete Query.answerTo Answers.ifInRange New.newMethods New.newCore New.newGate Gate.changed step
+unfolding padded sameBytes allInRange contains idBytes idInRange idOf kept listInRange listOf phonesOf pushed removeAll someOf tooLong K padLast W rounds hashFrom sha256 domain carMessage carDigest digits drawLimit drawn firstBelow group decode encode encodeAll Utf8.within isText right trim trimFront trimmed white anyLong before decoded decodedBody encoded field fields judged overLimits readCounted readFields nothingAfter readPhones Range.within Range.settingsFit Range.allOf Range.printable Range.methodFits Range.allFit Range.methodsIn Range.methodsFit Running.methodAt Running.cleanMethod Running.inProgress Running.codeInProgress Range.triesFit Range.sessionFits Range.windowFits Range.coreFits Range.inRange view listsStay Replies.leave Replies.quiet Replies.reply Replies.notified Replies.finish Policy.fingerprintConfirmed Policy.isIdentified Policy.approvedCar Policy.allowsReadWrite Policy.isReadOnly Policy.isFdBus Policy.isBusReadOnly Changes.policyChanged Access.approve DevLock.declareProduction CarIdentity.confirmPlatform CarIdentity.confirmFingerprint Can.lockAsked Can.setReadOnly Trust.isPaired Trust.ofThisCar Trust.isValidated Store.storeOf Store.forgetting Store.forget Store.restore Store.isOfCar Store.isOfOtherCar Store.isFull Store.validating Pairing.pair Tx.allowsCommand Tx.allow Times.saturatingAdd Session.endedAs Session.isOf Session.lostReadWrite Session.noteAt Session.cannotGoOn Session.lapseOf Session.placeFrom Session.placeOf Times.nextNumber checked Validation.endSession Validation.runsFor Validation.startChecks Validation.newSession Validation.begin Validation.startAt Validation.start Validation.succeededCore Validation.succeed Validation.rightCode Validation.judge Validation.submitted Validation.submit Validation.isAction Validation.completed Validation.complete Query.answerTo Answers.ifInRange New.newMethods New.newCore New.madeCore New.newGate Gate.saying Gate.served Gate.ended Gate.listing Gate.said Gate.says Gate.left Gate.gives step
 examples = record {
   byCode = refl;
   byAction = refl;

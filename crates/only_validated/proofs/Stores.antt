@@ -1,21 +1,17 @@
--- What a change of the stored validations does to who is listed.
+-- Who becomes listed by a change of the store.
 use Prim.Native.Nat.{ℕ}
 use mathlib.Core.Path.{_≡_, refl, sym, ap, _∙_}
-use mathlib.Core.Bool.{Bool, true, false, cond, _&&_, false≢true, and-eq-true-iff}
+use mathlib.Core.Bool.{Bool, true, false, cond, false≢true, and-eq-true-iff, and-false}
 use mathlib.Core.List.{List, [], _∷_, _++_}
 use lib.Dec.{eqb, ltb}
 use lib.ListN.{length, replicate}
 use Rattle.arrays.specs.Arrays.{sameBytes}
 use Rattle.arrays.proofs.Laws.{same-bytes-is}
-use Rattle.phones.specs.declared.ShortId.{ShortId}
-use Rattle.phones.specs.Phones.{idBytes, phonesOf, listOf, someOf, kept, contains, appended}
-use Rattle.phones.proofs.Laws.{phones-of-list}
+use Rattle.phones.specs.Ids.{someOf, kept, contains, Left, stays, becomes, afterwards, pushed}
 use Rattle.phones.proofs.Members.{contains-append}
-use Rattle.saved_record.specs.declared.Decoded.{Decoded}
-use Rattle.saved_record.specs.SavedRecord.{Reading, malformed, tooLarge, ok, refusal, restored}
-use Rattle.state.specs.declared.Validations.{Validations}
-use Rattle.validations.specs.Store.{noValidations}
-use Rattle.validations.specs.Store.{storeOf, validate}
+use Rattle.saved_record.specs.SavedRecord.{Reading, malformed, tooLarge, ok}
+use Rattle.state.specs.View.{Store}
+use Rattle.validations.specs.Store.{noStore, storeOf, isOfCar, ofCar, validating, restoring}
 use Rattle.only_validated.specs.Row.{listed}
 
 pub untrue : {A : Type 0} → false ≡ true → A
@@ -25,29 +21,17 @@ untrue e = absurd (false≢true e)
 pub unlisted : {A : Type 0} (b : Bool) → b ≡ false → b ≡ true → A
 unlisted b f t = untrue (sym f ∙ t)
 
--- ---- fewer are listed
+pub cases : {A : Type 0} (P : A → Type 0) (b : Bool) (x y : A) → (b ≡ true → P x) → (b ≡ false → P y) → P (cond b x y)
+cases P true x y h k = h refl
+cases P false x y h k = k refl
 
-pub record Less (v w : Validations) : Type 0 where
-  pub fewer : (car phone : List ℕ) → listed v car phone ≡ true → listed w car phone ≡ true
+-- of what becomes of the store: of those who become listed, P holds
+pub record Gains (P : List ℕ → List ℕ → Type 0) (s : Store) (y : Left Store) : Type 0 where
+  pub gains : (car phone : List ℕ) → listed s car phone ≡ false → listed (afterwards s y) car phone ≡ true → P car phone
 
-pub less-same : (v : Validations) → Less v v
-less-same v = record { fewer = λ car phone h. h }
-
--- an empty list has nobody
-pub none-in : (phone : List ℕ) → contains phone (phonesOf (listOf [])) ≡ false
-unfolding contains someOf
-none-in phone = rw (phones-of-list [])
-
-pub none-listed : (car phone : List ℕ) → listed noValidations car phone ≡ false
-unfolding listed
-none-listed car phone = rw (none-in phone) (go (sameBytes (replicate 32 0) car))
-  where
-    go : (b : Bool) → (b && false) ≡ false
-    go true = refl
-    go false = refl
-
-pub less-none : (w : Validations) → Less noValidations w
-less-none w = record { fewer = λ car phone h. unlisted _ (none-listed car phone) h }
+pub none-listed : (car phone : List ℕ) → listed noStore car phone ≡ false
+unfolding listed contains someOf
+none-listed car phone = and-false (sameBytes (replicate 32 0) car)
 
 -- who is kept was there
 contains-kept : (f : List ℕ → Bool) (s : List ℕ) (ps : List (List ℕ)) → contains s (kept f ps) ≡ true → contains s ps ≡ true
@@ -61,71 +45,72 @@ contains-kept f s (p ∷ ps) h = go (f p) (sameBytes p s) refl h (λ k. contains
     go true false e h rest = rest (rw e at h)
     go false false e h rest = rest h
 
-pub less-kept : (f : List ℕ → Bool) (v : Validations) → Less (storeOf (v .car) (kept f (phonesOf (v .phones)))) v
-unfolding storeOf listed
-less-kept f v = go (eqb (length (kept f (phonesOf (v .phones)))) 0)
-  where
-    some : (car phone : List ℕ) → listed (record { car = v .car; phones = listOf (kept f (phonesOf (v .phones))) }) car phone ≡ true → listed v car phone ≡ true
-    some car phone h =
-        let p = and-eq-true-iff (sameBytes (v .car) car) _ .0 (rw (phones-of-list (kept f (phonesOf (v .phones)))) at h) in
-        and-eq-true-iff (sameBytes (v .car) car) _ .1 (p .0, contains-kept f phone (phonesOf (v .phones)) (p .1))
+module _ (P : List ℕ → List ℕ → Type 0) (s : Store) where
+  pub gain-cond : (b : Bool) (y z : Left Store) → (b ≡ true → Gains P s y) → (b ≡ false → Gains P s z) → Gains P s (cond b y z)
+  gain-cond b y z h k = cases (Gains P s) b y z h k
 
-    go : (b : Bool) → Less (cond b noValidations (record { car = v .car; phones = listOf (kept f (phonesOf (v .phones))) })) v
-    go true = less-none v
-    go false = record { fewer = some }
+  -- ---- nobody
 
--- ---- one more is listed
+  pub gain-stays : Gains P s stays
+  gain-stays = record { gains = λ car phone n l. unlisted _ n l }
 
-module _ (v : Validations) (at : List ℕ) (p : ShortId) (car phone : List ℕ) (was : listed v car phone ≡ false) where
-  -- the list goes on: who is in it now was, or is p
-  appended-is : sameBytes (v .car) at ≡ true → listed (record { car = v .car; phones = appended (v .phones) (idBytes p) }) car phone ≡ true → (at ≡ car) × (idBytes p ≡ phone)
-  unfolding listed appended
-  appended-is same h =
-      let k = and-eq-true-iff (sameBytes (v .car) car) _ .0 h in
-      (sym (same-bytes-is (v .car) at .0 same) ∙ same-bytes-is (v .car) car .0 (k .0), room (k .0) (ltb (length (phonesOf (v .phones))) 32) (k .1))
-    where
-      new : sameBytes (v .car) car ≡ true → (t : Bool) → contains phone (phonesOf (v .phones)) ≡ t → cond t true (sameBytes (idBytes p) phone) ≡ true → idBytes p ≡ phone
-      new e true t h = unlisted _ was (and-eq-true-iff (sameBytes (v .car) car) _ .1 (e, t))
-      new e false t h = same-bytes-is (idBytes p) phone .0 h
+  pub gain-none : Gains P s (becomes noStore)
+  gain-none = record { gains = λ car phone n l. unlisted _ (none-listed car phone) l }
 
-      room : sameBytes (v .car) car ≡ true → (b : Bool)
-          → contains phone (phonesOf (cond b (listOf (phonesOf (v .phones) ++ (idBytes p ∷ []))) (v .phones))) ≡ true → idBytes p ≡ phone
-      room e true h = new e _ refl (rw (phones-of-list (phonesOf (v .phones) ++ (idBytes p ∷ [])), contains-append phone (phonesOf (v .phones)) (idBytes p)) at h)
-      room e false h = unlisted _ was (and-eq-true-iff (sameBytes (v .car) car) _ .1 (e, h))
+  pub gain-kept : (f : List ℕ → Bool) → Gains P s (becomes (storeOf (s .car) (kept f (s .phones))))
+  unfolding storeOf listed
+  gain-kept f =
+      cases (λ (t : Store). Gains P s (becomes t)) (eqb (length (kept f (s .phones))) 0) _ _
+      (λ e. gain-none)
+      (λ e. record {
+        gains = λ car phone n l.
+            let p = and-eq-true-iff (sameBytes (s .car) car) _ .0 l in
+            unlisted _ n (rw (p .0) (contains-kept f phone (s .phones) (p .1)));
+      })
 
-  -- a list of another car is replaced
-  replaced-is : listed (record { car = at; phones = listOf (idBytes p ∷ []) }) car phone ≡ true → (at ≡ car) × (idBytes p ≡ phone)
-  unfolding listed contains someOf
-  replaced-is h =
-      let k = and-eq-true-iff (sameBytes at car) _ .0 (rw (phones-of-list (idBytes p ∷ [])) at h) in
-      (same-bytes-is at car .0 (k .0), same-bytes-is (idBytes p) phone .0 (only (sameBytes (idBytes p) phone) (k .1)))
-    where
-      only : (b : Bool) → cond b true false ≡ true → b ≡ true
-      only true e = refl
-      only false e = e
+  -- ---- a phone is validated for a car
 
-  pub validate-is : listed (validate v at p) car phone ≡ true → (at ≡ car) × (idBytes p ≡ phone)
-  unfolding validate
-  validate-is h = go (ltb 0 (length (phonesOf (v .phones)))) (sameBytes (v .car) at) refl (contains (idBytes p) (phonesOf (v .phones))) h
-    where
-      go : (a b : Bool) → sameBytes (v .car) at ≡ b → (t : Bool)
-          → listed (cond (a && b) (cond t v (record { car = v .car; phones = appended (v .phones) (idBytes p) })) (record { car = at; phones = listOf (idBytes p ∷ []) })) car phone ≡ true
-          → (at ≡ car) × (idBytes p ≡ phone)
-      go true true e true h = unlisted _ was h
-      go true true e false h = appended-is e h
-      go true false e t h = replaced-is h
-      go false b e t h = replaced-is h
+  module _ (at id : List ℕ) (p : P at id) where
+    -- only the one put last is new
+    last-is : (ps : List (List ℕ)) (car phone : List ℕ) → contains phone ps ≡ false → listed (record { car = at; phones = ps ++ (id ∷ []) }) car phone ≡ true → P car phone
+    unfolding listed
+    last-is ps car phone n l =
+        let k = and-eq-true-iff (sameBytes at car) _ .0 (rw (contains-append phone ps id) at l) in
+        rw (same-bytes-is at car .0 (k .0), same-bytes-is id phone .0 (rw n at (k .1))) at p
 
--- ---- a record is restored
+    -- the list goes on
+    gain-last : sameBytes (s .car) at ≡ true → Gains P s (ofCar (s .car) (becomes (s .phones ++ (id ∷ []))))
+    unfolding listed
+    gain-last same = record {
+      gains = λ car phone n l.
+          let same-car = and-eq-true-iff (sameBytes (s .car) car) _ .0 l .0 in
+          last-is (s .phones) car phone (rw same-car at n) (rw (same-bytes-is (s .car) at .0 same) at l);
+    }
 
-abbrev pub storeFrom : Decoded → Validations
-storeFrom d = record { car = d .car; phones = d .phones }
+    gain-pushed : sameBytes (s .car) at ≡ true → Gains P s (ofCar (s .car) (pushed id (s .phones)))
+    unfolding pushed
+    gain-pushed same = cases (λ (x : Left (List (List ℕ))). Gains P s (ofCar (s .car) x)) (ltb (length (s .phones)) 32) _ _ (λ e. gain-last same) (λ e. gain-stays)
 
-pub restored-is : (r : Reading) (car phone : List ℕ) → listed (storeFrom (restored r)) car phone ≡ true → (phones : List (List ℕ)) × (r ≡ ok car phones) × (contains phone phones ≡ true)
-unfolding restored refusal listed
-restored-is malformed car phone h = unlisted _ (none-listed car phone) h
-restored-is tooLarge car phone h = unlisted _ (none-listed car phone) h
-restored-is (ok at ps) car phone h = (ps, ap (λ (c : List ℕ). ok c ps) (same-bytes-is at car .0 (k .0)), k .1)
-  where
-    k : (sameBytes at car ≡ true) × (contains phone ps ≡ true)
-    k = and-eq-true-iff (sameBytes at car) _ .0 (rw (phones-of-list ps) at h)
+    -- a list of another car is replaced
+    gain-new : Gains P s (becomes (record { car = at; phones = id ∷ [] }))
+    unfolding contains someOf
+    gain-new = record { gains = λ car phone n l. last-is [] car phone refl l }
+
+    pub gain-validating : Gains P s (validating s at id)
+    unfolding validating isOfCar
+    gain-validating =
+        gain-cond (isOfCar s at) _ _
+        (λ e. let same = and-eq-true-iff (ltb 0 (length (s .phones))) _ .0 e .1 in search (gain-cond, gain-stays, gain-pushed))
+        (λ e. gain-new)
+
+  -- ---- a record is restored
+
+  pub gain-restoring : (r : Reading) → ((car phone : List ℕ) (ps : List (List ℕ)) → r ≡ ok car ps → contains phone ps ≡ true → P car phone) → Gains P s (restoring r .store)
+  unfolding listed
+  gain-restoring malformed k = gain-none
+  gain-restoring tooLarge k = gain-none
+  gain-restoring (ok at ps) k = record {
+    gains = λ car phone n l.
+        let m = and-eq-true-iff (sameBytes at car) _ .0 l in
+        k car phone ps (ap (λ (c : List ℕ). ok c ps) (same-bytes-is at car .0 (m .0))) (m .1);
+  }

@@ -6,7 +6,8 @@ use mathlib.Core.Bool.{Bool, true, false, _&&_}
 use mathlib.Core.List.{List, [], _∷_}
 use mathlib.Core.Logic.{_↔_, _≢_}
 use Rattle.arrays.specs.Arrays.{sameBytes}
-use Rattle.phones.specs.Phones.{contains, idBytes, phonesOf}
+use Rattle.phones.specs.Ids.{contains}
+use Rattle.phones.specs.Phones.{idBytes}
 use Rattle.frames.specs.declared.CanFrame.{CanFrame}
 use Rattle.frames.specs.declared.TxClass.{TxClass}
 use Rattle.frames.specs.declared.TxClass.the-variants.{Platform, Command}
@@ -18,10 +19,10 @@ use Rattle.state.specs.declared.Kind.the-variants.{CodeEntry, InCarAction}
 use Rattle.state.specs.declared.Method.{Method}
 use Rattle.state.specs.declared.Settings.{Settings}
 use Rattle.state.specs.declared.Session.{Session}
-use Rattle.state.specs.declared.Validations.{Validations}
 use Rattle.state.specs.declared.Gate.{Gate}
 use Rattle.state.specs.declared.Answer.the-variants.{Yes}
 use Rattle.state.specs.Running.{inProgress, methodAt}
+use Rattle.state.specs.View.{Store, storeIn, listsIn, view}
 use Rattle.range.specs.Range.{inRange}
 use Rattle.policy.specs.Policy.{fingerprintConfirmed, isIdentified, isBusReadOnly}
 use Rattle.phone_trust.specs.Trust.{isPaired}
@@ -29,21 +30,21 @@ use Rattle.probe_window.specs.declared.Unsent.the-variants.{At}
 use Rattle.probe_window.specs.Window.{isOpen, unsentIn}
 use Rattle.answers.specs.Query.{plain}
 use Rattle.new_gate.specs.New.{newGate}
-use Rattle.definition.specs.Gate.{Call, change, submitValidationCode, completeValidationAction, restorePhoneValidations, allowCanTx, step, after, afterAll}
+use Rattle.definition.specs.Gate.{Call, submitValidationCode, onSession, completeValidationAction, onLists, restorePhoneValidations, onCore, allowCanTx, step, after, afterAll}
 
 -- ---- who is listed
 
 -- the stored validations are of this car and list this phone
-unfoldable pub listed : Validations → List ℕ → List ℕ → Bool
-listed v car phone = sameBytes (v .car) car && contains phone (phonesOf (v .phones))
+unfoldable pub listed : Store → List ℕ → List ℕ → Bool
+listed s car phone = sameBytes (s .car) car && contains phone (s .phones)
 
 -- the gate lists this phone for this car
 abbrev pub Listed : Gate → List ℕ → List ℕ → Type 0
-Listed g car phone = listed (g .core .validations) car phone ≡ true
+Listed g car phone = listed (storeIn (g .phones .store)) car phone ≡ true
 
 -- they are of another car, or do not list it
 abbrev pub NotListed : Gate → List ℕ → List ℕ → Type 0
-NotListed g car phone = listed (g .core .validations) car phone ≡ false
+NotListed g car phone = listed (storeIn (g .phones .store)) car phone ≡ false
 
 -- the car that the gate knows now
 abbrev pub carNow : Gate → List ℕ
@@ -53,11 +54,11 @@ carNow g = g .core .policy .identity .car .digest
 
 -- the gate answers yes to this frame
 abbrev pub Allowed : Gate → ℕ → CanFrame → TxClass → List ℕ → ℕ → Type 0
-Allowed g bus frame class owner clock = step g (change (allowCanTx bus frame class owner clock)) .answer ≡ plain Yes
+Allowed g bus frame class owner clock = step g (onCore (allowCanTx bus frame class owner clock)) .answer ≡ plain Yes
 
 -- what every frame needs: the gate is in range, and so is the frame's id
 abbrev pub Sound : Gate → CanFrame → Type 0
-Sound g frame = (inRange (g .core) ≡ true) × (Frames.canIdInRange (frame .id) ≡ true)
+Sound g frame = (inRange (view g) ≡ true) × (Frames.canIdInRange (frame .id) ≡ true)
 
 -- what a command needs: a frame for that bus, the bus read-write, a car identified now, and an owner that has an id, is paired, and is
 -- listed for this car
@@ -67,7 +68,7 @@ pub record MayCommand (g : Gate) (bus : ℕ) (frame : CanFrame) (owner : List �
   pub readWrite : isBusReadOnly (g .core .policy) bus ≡ false
   pub identified : fingerprintConfirmed (g .core .policy .identity) ≡ true
   pub named : owner ≢ []
-  pub paired : isPaired (g .core) owner ≡ true
+  pub paired : isPaired (listsIn (g .phones)) owner ≡ true
   pub validated : Listed g (carNow g) owner
 
 -- what a frame of the platform needs: the bus read-write, or the identity probe's open window with an equal frame that was not sent
@@ -97,9 +98,9 @@ pub data Validates (g : Gate) (car phone : List ℕ) : Call → Type 0 where
   byCode : (typed : List ℕ) (clock : ℕ) → Runs g CodeEntry car phone clock → right (g .code) (g .core .settings .digits) typed ≡ true
       → Validates g car phone (submitValidationCode phone typed clock)
   byAction : (number clock : ℕ) → Runs g InCarAction car phone clock → session g .number ≡ number
-      → Validates g car phone (change (completeValidationAction number clock))
+      → Validates g car phone (onSession (completeValidationAction number clock))
   byRecord : (bytes : List ℕ) (phones : List (List ℕ)) → decoded bytes ≡ ok car phones → contains phone phones ≡ true
-      → Validates g car phone (change (restorePhoneValidations bytes))
+      → Validates g car phone (onLists (restorePhoneValidations bytes))
 
 -- ---- runs
 
@@ -110,7 +111,7 @@ pub data Stays (car phone : List ℕ) : Gate → List Call → Type 0 where
 
 -- one of the calls validates the phone for the car, at the gate as it is then, and from then on the phone stays listed to the end
 pub data WasValidated (car phone : List ℕ) : Gate → List Call → Type 0 where
-  here : {g : Gate} {k : Call} {ks : List Call} → inRange (g .core) ≡ true → Validates g car phone k → Stays car phone (after g k) ks
+  here : {g : Gate} {k : Call} {ks : List Call} → inRange (view g) ≡ true → Validates g car phone k → Stays car phone (after g k) ks
       → WasValidated car phone g (k ∷ ks)
   later : {g : Gate} {k : Call} {ks : List Call} → WasValidated car phone (after g k) ks → WasValidated car phone g (k ∷ ks)
 
@@ -124,7 +125,7 @@ pub record OnlyValidated : Type 0 where
       → Allowed g bus frame Platform owner clock ↔ Sound g frame × MaySend g bus frame clock
   -- whatever the call, a phone becomes listed for a car only if the call validates it
   pub call : (g : Gate) (k : Call) (car phone : List ℕ) → NotListed g car phone → Listed (after g k) car phone
-      → (inRange (g .core) ≡ true) × Validates g car phone k
+      → (inRange (view g) ≡ true) × Validates g car phone k
   -- whatever the calls, from any gate that does not list the owner: if a command of it passes after them, one of them validated it for
   -- the car identified then
   pub anyRun : (g : Gate) (ks : List Call) (bus : ℕ) (frame : CanFrame) (owner : List ℕ) (clock : ℕ) → NotListed g (carNow (afterAll g ks)) owner

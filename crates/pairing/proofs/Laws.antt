@@ -1,4 +1,4 @@
--- What an id that was made says of its bytes.
+-- What an id that was made says of its bytes, and pairings that changed beside the store.
 use mathlib.Core.Path.{_≡_, refl, sym, ap, _∙_}
 use mathlib.Core.Bool.{Bool, true, false, cond, true≢false, false≢true}
 use mathlib.Core.List.{List, []}
@@ -9,6 +9,12 @@ use Rattle.phones.specs.declared.ShortId.{ShortId}
 use Rattle.phones.specs.declared.MadeId.{MadeId}
 use Rattle.phones.specs.Phones.{idBytes, idOf, madeId}
 use Rattle.phones.proofs.Laws.{bytes-of-id}
+use Rattle.phones.specs.Ids.{Left, stays, becomes}
+use Rattle.phones.specs.Phones.{listOf}
+use Rattle.state.specs.declared.Answer.{Answer}
+use Rattle.state.specs.declared.Phones.{Phones}
+use Rattle.state.specs.View.{Store, listedIn}
+use Rattle.validations.specs.Store.{storing}
 
 ok-tells : (t : Bool) (m : MadeId) (a b : ShortId) → m ≡ cond t (record { ok = false; id = a }) (record { ok = true; id = b }) → m .ok ≡ true → t ≡ false
 ok-tells true m a b e ok = absurd (false≢true (sym (ap (λ (x : MadeId). x .ok) e) ∙ ok))
@@ -36,3 +42,9 @@ made-id m s e ok = id-tells (ltb 32 (length s)) m (idOf []) (idOf s) e ok
 
 pub made-bytes : (m : MadeId) (s : List ℕ) → m ≡ madeId s → m .ok ≡ true → idBytes (m .id) ≡ s
 made-bytes m s e ok = ap idBytes (made-id m s e ok) ∙ bytes-of-id s
+
+-- the pairings are laid down first, then what becomes of the store
+pub paired-first : (p : Phones) (a : Answer) (ps : List (List ℕ)) (x : Left Store)
+    → listedIn (record { paired = listOf ps; store = p .store }) (storing a stays x) ≡ listedIn p (storing a (becomes ps) x)
+paired-first p a ps stays = refl
+paired-first p a ps (becomes s) = refl

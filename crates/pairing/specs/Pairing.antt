@@ -1,53 +1,60 @@
 -- The calls on the pairings and the connected phone (pairing.rs, phone_trust.rs).
-use mathlib.Core.Bool.{cond}
+use mathlib.Core.Bool.{Bool, false, cond}
 use mathlib.Core.List.{List, [], _∷_}
 use Prim.Native.Nat.{ℕ}
 use lib.Dec.{eqb, ltb}
 use lib.ListN.{length}
 use Rattle.arrays.specs.Arrays.{sameBytes}
-use Rattle.phones.specs.Phones.{idBytes, idOf, phonesOf, listOf, removeFirst, appended}
+use Rattle.phones.specs.Ids.{contains, removeFirst, Left, stays, becomes, pushed}
+use Rattle.phones.specs.Phones.{idBytes, idOf}
 use Rattle.state.specs.declared.Core.{Core}
 use Rattle.state.specs.declared.Answer.the-variants.{Done, Yes, No, Count, IdTooLong}
 use Rattle.state.specs.declared.Said.{Said}
-use Rattle.state.specs.Parts.{withPaired, withValidations, withPeer}
-use Rattle.state.specs.Replies.{quiet}
+use Rattle.state.specs.Parts.{withPeer}
+use Rattle.state.specs.Replies.{nothingRaised, phoneAccessChanged, leave, quiet, notified, yesNo}
 use Rattle.state.specs.Checks.{_refuses_, checked}
-use Rattle.validations.specs.Store.{noValidations, stored, forgetting}
-use Rattle.phone_trust.specs.Trust.{notified, isPaired}
+use Rattle.state.specs.View.{Lists, Listing, listsStay}
+use Rattle.validations.specs.Store.{noStore, storing, forgetting}
 
 -- ---- pairings
 
--- add_paired_phone
-unfoldable pub pair : Core → List ℕ → Said
-pair c id =
-    checked c
+-- add_paired_phone; `bonded` is the set limit
+unfoldable pub pair : List (List ℕ) → ℕ → List ℕ → Listing
+pair paired bonded id =
+    checked (listsStay nothingRaised)
     ((ltb 32 (length id) refuses IdTooLong) ∷  -- 18
     (eqb (length id) 0 refuses No) ∷ [])  -- no for an empty id, without a signal
-    (cond (isPaired c id) (notified c Yes)
-    (cond (ltb (length (phonesOf (c .paired))) (c .settings .bonded))
-    (notified (withPaired c (appended (c .paired) id)) Yes)
-    (notified c No)))
+    (cond (contains id paired) (listsStay phoneAccessChanged Yes)
+    (cond (ltb (length paired) bonded)
+    (record { answer = Yes; raised = phoneAccessChanged; stores = false; paired = pushed id paired; store = stays })
+    (listsStay phoneAccessChanged No)))
 
--- remove_paired_phone: the first match goes, and the phone's validation in any case
-unfoldable pub unpair : Core → List ℕ → Said
-unpair c id =
-    cond (isPaired c id)
-    (forgetting (withPaired c (listOf (removeFirst id (phonesOf (c .paired))))) Yes id)
-    (forgetting c No id)
+-- the first match goes
+unfoldable pub unpairing : List (List ℕ) → List ℕ → Left (List (List ℕ))
+unpairing paired id = cond (contains id paired) (becomes (removeFirst id paired)) stays
 
--- clear_paired_phones: both lists are emptied
-unfoldable pub clear : Core → Said
-clear c =
-    let c′ = withValidations (withPaired c (listOf [])) noValidations in
-    let a = Count (length (phonesOf (c .paired))) in
-    cond (ltb 0 (length (phonesOf (c .validations .phones)))) (stored (withPaired c (listOf [])) a noValidations) (quiet c′ a)
+-- remove_paired_phone: the phone's validation goes in any case
+unfoldable pub unpair : Lists → List ℕ → Listing
+unpair l id = storing (yesNo (contains id (l .paired))) (unpairing (l .paired) id) (forgetting (l .store) id)
+
+-- clear_paired_phones: both lists are emptied; S A V if there were validations
+unfoldable pub clear : Lists → Listing
+clear l =
+    let were = ltb 0 (length (l .store .phones)) in
+    record {
+      answer = Count (length (l .paired));
+      raised = cond were phoneAccessChanged nothingRaised;
+      stores = were;
+      paired = becomes [];
+      store = becomes noStore;
+    }
 
 -- ---- the connected phone
 
 -- set_ble_peer: an empty id is none
 unfoldable pub setPeer : Core → List ℕ → Said
 setPeer c id =
-    checked c
+    checked (leave c)
     ((ltb 32 (length id) refuses IdTooLong) ∷ [])  -- 18
     (cond (sameBytes (idBytes (c .peer)) id)
     (quiet (withPeer c (idOf id)) Done)

@@ -1,60 +1,95 @@
-// The calls on the pairings and the connected phone, on a core in range (pairing.rs, phone_trust.rs).
+// The calls on the pairings and the connected phone, on a gate in range (pairing.rs, phone_trust.rs).
 use state::Answer;
 use state::Core;
+use state::Listed;
+use state::Phones;
+use state::Raised;
 use state::Said;
 ghost use mathlib.Core.Path.{_≡_};
+ghost use Rattle.phones.specs.Phones.{phonesOf};
+ghost use Rattle.state.specs.View.{listsIn, listsStay, listedIn};
 ghost use Rattle.pairing.specs.Pairing.{setPeer};
 ghost use Rattle.pairing.specs.Pairing as Pairing;
 
-pub fn add_paired_phone(core: Core, id: &[u8]) -> Said
-    ensures { λ r. ⌜ r ≡ Pairing.pair core (now (id .entry)) ⌝ }
+// An answer, with the lists as they are given here.
+fn told(p: Phones, raised: Raised, answer: Answer) -> Listed
+    ensures { λ r. ⌜ r ≡ listedIn p (listsStay raised answer) ⌝ }
 {
+    Listed {
+        answer,
+        raised,
+        stores: false,
+        phones: p,
+    }
+}
+
+pub fn add_paired_phone(p: Phones, bonded: usize, id: &[u8]) -> Listed
+    ensures { λ r. ⌜ r ≡ listedIn p (Pairing.pair (phonesOf (p .paired)) bonded (now (id .entry))) ⌝ }
+{
+    let none = state::replies::nothing_raised();
     let made = phones::make_id(id);
     if made.ok {
         if id.len() == 0 {
-            return state::replies::leave(core, Answer::No);
+            return told(p, none, Answer::No);
         }
-        if phone_trust::is_paired(core, id) {
-            return phone_trust::notified(core, Answer::Yes);
+        let raised = state::replies::phone_access_changed();
+        let paired = p.paired;
+        if phones::contains(paired, id) {
+            return told(p, raised, Answer::Yes);
         }
-        let paired = core.paired;
-        if phones::count(paired) < core.settings.bonded {
-            let p = made.id;
-            let more = phones::append(paired, p);
-            let c = state::parts::with_paired(core, more);
-            return phone_trust::notified(c, Answer::Yes);
+        if phones::count(paired) < bonded {
+            let q = made.id;
+            let more = phones::append(paired, q);
+            let mut phones = p;
+            phones.paired = more;
+            return told(phones, raised, Answer::Yes);
         }
-        return phone_trust::notified(core, Answer::No);
+        return told(p, raised, Answer::No);
     }
-    state::replies::leave(core, Answer::IdTooLong)
+    told(p, none, Answer::IdTooLong)
 }
 
-pub fn remove_paired_phone(core: Core, id: &[u8]) -> Said
-    ensures { λ r. ⌜ r ≡ Pairing.unpair core (now (id .entry)) ⌝ }
+pub fn remove_paired_phone(p: Phones, id: &[u8]) -> Listed
+    ensures { λ r. ⌜ r ≡ listedIn p (Pairing.unpair (listsIn p) (now (id .entry))) ⌝ }
 {
-    if phone_trust::is_paired(core, id) {
-        let paired = core.paired;
+    let paired = p.paired;
+    if phones::contains(paired, id) {
         let rest = phones::remove_first(paired, id);
-        let c = state::parts::with_paired(core, rest);
-        return validations::forgetting(c, Answer::Yes, id);
+        let mut phones = p;
+        phones.paired = rest;
+        return validations::forgetting(phones, Answer::Yes, id);
     }
-    validations::forgetting(core, Answer::No, id)
+    validations::forgetting(p, Answer::No, id)
 }
 
-pub fn clear_paired_phones(core: Core) -> Said
-    ensures { λ r. ⌜ r ≡ Pairing.clear core ⌝ }
+pub fn clear_paired_phones(p: Phones) -> Listed
+    ensures { λ r. ⌜ r ≡ listedIn p (Pairing.clear (listsIn p)) ⌝ }
 {
-    let paired = core.paired;
+    let paired = p.paired;
     let answer = Answer::Count(phones::count(paired));
-    let validated = core.validations.phones;
+    let validated = p.store.phones;
     let none = phones::empty_list();
-    let c = state::parts::with_paired(core, none);
-    let v = validations::no_validations();
+    let store = validations::no_validations();
+    let phones = Phones {
+        paired: none,
+        store,
+    };
     if 0 < phones::count(validated) {
-        return validations::stored(c, answer, v);
+        let raised = state::replies::phone_access_changed();
+        return Listed {
+            answer,
+            raised,
+            stores: true,
+            phones,
+        };
     }
-    let cleared = state::parts::with_validations(c, v);
-    state::replies::quiet(cleared, answer)
+    let raised = state::replies::nothing_raised();
+    Listed {
+        answer,
+        raised,
+        stores: false,
+        phones,
+    }
 }
 
 pub fn set_ble_peer(core: Core, id: &[u8]) -> Said
@@ -68,7 +103,7 @@ pub fn set_ble_peer(core: Core, id: &[u8]) -> Said
         if phones::id_is(peer, id) {
             return state::replies::quiet(c, Answer::Done);
         }
-        return phone_trust::notified(c, Answer::Done);
+        return state::replies::notified(c, Answer::Done);
     }
     state::replies::leave(core, Answer::IdTooLong)
 }

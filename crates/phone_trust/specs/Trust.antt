@@ -4,37 +4,29 @@ use mathlib.Core.List.{List}
 use Prim.Native.Nat.{ℕ}
 use lib.Dec.{eqb}
 use lib.ListN.{length}
-use Rattle.phones.specs.Phones.{phonesOf, contains, anyIn}
-use Rattle.state.specs.declared.Core.{Core}
+use Rattle.phones.specs.Ids.{contains, anyIn}
+use Rattle.state.specs.declared.Identity.{Identity}
+use Rattle.state.specs.View.{Store, Lists}
 use Rattle.policy.specs.Policy.{isIdentified}
 use Rattle.phone_trust.specs.declared.Trust.{Trust}
 use Rattle.phone_trust.specs.declared.Trust.the-variants.{NotBonded, Bonded, Validated}
-use Rattle.state.specs.declared.Answer.{Answer}
-use Rattle.state.specs.declared.Said.{Said}
-use Rattle.state.specs.Replies.{phoneAccessChanged, reply}
 
 -- is_paired
-unfoldable pub isPaired : Core → List ℕ → Bool
-isPaired c id = contains id (phonesOf (c .paired))
+unfoldable pub isPaired : Lists → List ℕ → Bool
+isPaired l id = contains id (l .paired)
 
 -- the validations are of the car identified now
-unfoldable pub ofThisCar : Core → Bool
-ofThisCar c = isIdentified (c .policy .identity) (c .validations .car)
+unfoldable pub ofThisCar : Identity → Store → Bool
+ofThisCar i s = isIdentified i (s .car)
 
 -- is_phone_validated: not empty, paired, and listed for the car identified now
-unfoldable pub isValidated : Core → List ℕ → Bool
-isValidated c id = ofThisCar c && not (eqb (length id) 0) && isPaired c id && contains id (phonesOf (c .validations .phones))
+unfoldable pub isValidated : Identity → Lists → List ℕ → Bool
+isValidated i l id = ofThisCar i (l .store) && not (eqb (length id) 0) && isPaired l id && contains id (l .store .phones)
 
 -- car_has_validated_phone
-unfoldable pub carHasValidated : Core → Bool
-carHasValidated c = ofThisCar c && anyIn (phonesOf (c .paired)) (phonesOf (c .validations .phones))
+unfoldable pub carHasValidated : Identity → Lists → Bool
+carHasValidated i l = ofThisCar i (l .store) && anyIn (l .paired) (l .store .phones)
 
 -- phone_trust_level
-unfoldable pub trustOf : Core → List ℕ → Trust
-trustOf c id = cond (isPaired c id) (cond (isValidated c id) Validated Bonded) NotBonded
-
--- ---- the signals
-
--- notify_phone_access_changed, with an answer
-unfoldable pub notified : Core → Answer → Said
-notified c a = reply c a phoneAccessChanged
+unfoldable pub trustOf : Identity → Lists → List ℕ → Trust
+trustOf i l id = cond (isPaired l id) (cond (isValidated i l id) Validated Bonded) NotBonded

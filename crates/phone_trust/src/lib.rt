@@ -1,10 +1,10 @@
 // Who is paired, who is validated (pairing.rs, phone_trust.rs).
-use state::Answer;
-use state::Core;
-use state::Said;
+use state::Identity;
+use state::Phones;
+use state::Validations;
 ghost use mathlib.Core.Path.{_≡_};
+ghost use Rattle.state.specs.View.{storeIn, listsIn};
 ghost use Rattle.phone_trust.specs.Trust.{carHasValidated, isPaired, isValidated, ofThisCar, trustOf};
-ghost use Rattle.phone_trust.specs.Trust as Levels;
 
 // PhoneTrustLevel.
 pub enum Trust {
@@ -13,64 +13,57 @@ pub enum Trust {
     Validated,
 }
 
-pub fn is_paired(core: Core, id: &[u8]) -> bool
-    ensures { λ r. ⌜ r ≡ isPaired core (now (id .entry)) ⌝ }
+pub fn is_paired(p: Phones, id: &[u8]) -> bool
+    ensures { λ r. ⌜ r ≡ isPaired (listsIn p) (now (id .entry)) ⌝ }
 {
-    let paired = core.paired;
+    let paired = p.paired;
     phones::contains(paired, id)
 }
 
 // The validations are of the car identified now.
-pub fn of_this_car(core: Core) -> bool
-    ensures { λ r. ⌜ r ≡ ofThisCar core ⌝ }
+fn of_this_car(identity: Identity, v: Validations) -> bool
+    ensures { λ r. ⌜ r ≡ ofThisCar identity (storeIn v) ⌝ }
 {
-    let identity = core.policy.identity;
-    let car = core.validations.car;
+    let car = v.car;
     policy::is_identified(identity, car)
 }
 
-pub fn is_phone_validated(core: Core, id: &[u8]) -> bool
-    ensures { λ r. ⌜ r ≡ isValidated core (now (id .entry)) ⌝ }
+pub fn is_phone_validated(identity: Identity, p: Phones, id: &[u8]) -> bool
+    ensures { λ r. ⌜ r ≡ isValidated identity (listsIn p) (now (id .entry)) ⌝ }
 {
-    if of_this_car(core) {
+    let store = p.store;
+    if of_this_car(identity, store) {
         if id.len() == 0 {
             return false;
         }
-        if is_paired(core, id) {
-            let validated = core.validations.phones;
+        if is_paired(p, id) {
+            let validated = store.phones;
             return phones::contains(validated, id);
         }
     }
     false
 }
 
-pub fn car_has_validated_phone(core: Core) -> bool
-    ensures { λ r. ⌜ r ≡ carHasValidated core ⌝ }
+pub fn car_has_validated_phone(identity: Identity, p: Phones) -> bool
+    ensures { λ r. ⌜ r ≡ carHasValidated identity (listsIn p) ⌝ }
 {
-    if of_this_car(core) {
-        let paired = core.paired;
-        let validated = core.validations.phones;
+    let store = p.store;
+    if of_this_car(identity, store) {
+        let paired = p.paired;
+        let validated = store.phones;
         return phones::any_in(validated, paired);
     }
     false
 }
 
-pub fn phone_trust_level(core: Core, id: &[u8]) -> Trust
-    ensures { λ r. ⌜ r ≡ trustOf core (now (id .entry)) ⌝ }
+pub fn phone_trust_level(identity: Identity, p: Phones, id: &[u8]) -> Trust
+    ensures { λ r. ⌜ r ≡ trustOf identity (listsIn p) (now (id .entry)) ⌝ }
 {
-    if is_paired(core, id) {
-        if is_phone_validated(core, id) {
+    if is_paired(p, id) {
+        if is_phone_validated(identity, p, id) {
             return Trust::Validated;
         }
         return Trust::Bonded;
     }
     Trust::NotBonded
-}
-
-// An answer with the phone access signals.
-pub fn notified(core: Core, answer: Answer) -> Said
-    ensures { λ r. ⌜ r ≡ Levels.notified core answer ⌝ }
-{
-    let signals = state::replies::phone_access_changed();
-    state::replies::reply(core, answer, signals)
 }

@@ -10,7 +10,8 @@ use lib.Seq.{take-suc}
 use Rattle.arrays.proofs.Laws.{padded-push}
 use Rattle.phones.specs.declared.ShortId.{ShortId}
 use Rattle.phones.specs.declared.PhoneList.{PhoneList}
-use Rattle.phones.specs.Phones.{idBytes, idOf, listOf, phonesOf, kept}
+use Rattle.phones.specs.Ids.{kept}
+use Rattle.phones.specs.Phones.{idBytes, idOf, listOf, phonesOf}
 use Rattle.phones.proofs.Laws.{noId, phones-at}
 
 -- an id stored at k, right after those that are there

@@ -6,7 +6,7 @@ use Prim.Native.Nat.{ℕ, suc, _≤_, _<_}
 use native.Mathlib.Omega.{arith}
 use lib.ListN.{length}
 use Rattle.arrays.specs.Arrays.{sameBytes}
-use Rattle.phones.specs.Phones.{someOf, kept, contains, removeFirst, removeAll, retainIn}
+use Rattle.phones.specs.Ids.{someOf, kept, contains, removeFirst, removeAll, retainIn}
 
 -- ---- kept
 

@@ -4,14 +4,15 @@ use mathlib.Core.List.{List, [], _∷_, _++_, map}
 use Prim.Native.Nat.{ℕ, zero, suc, _≤_, _<_, min}
 use native.Mathlib.Nat.{zero-min, min-zero, suc-min-suc}
 use native.Mathlib.Omega.{arith}
-use borrow.Author.Tests.{lt-ltb, le-ltb}
+use borrow.Author.Tests.{lt-ltb}
 use lib.ListN.{length, take, getD, replicate, length-map, length-take, List·getD-map}
 use lib.Seq.{getD-take}
 use Rattle.arrays.specs.Arrays.{padded, put}
 use Rattle.arrays.proofs.Laws.{padded-take, put-padded}
 use Rattle.phones.specs.declared.ShortId.{ShortId}
 use Rattle.phones.specs.declared.PhoneList.{PhoneList}
-use Rattle.phones.specs.Phones.{idBytes, idOf, phonesOf, listOf, appended}
+use Rattle.phones.specs.Ids.{becomes, pushed}
+use Rattle.phones.specs.Phones.{idBytes, idOf, phonesOf, listOf}
 
 -- ---- what is read back
 
@@ -66,14 +67,6 @@ phones-at l i h =
 
 -- ---- one id more
 
-module _ (l : PhoneList) (s : List ℕ) where
-  pub append-room : length (phonesOf l) < 32 → appended l s ≡ listOf (phonesOf l ++ (s ∷ []))
-  unfolding appended
-  append-room h = rw (lt-ltb _ _ h)
-
-  pub append-full : 32 ≤ length (phonesOf l) → appended l s ≡ l
-  unfolding appended
-  append-full h = rw (le-ltb _ _ h)
-
-  pub phones-append : length (phonesOf l) < 32 → phonesOf (appended l s) ≡ phonesOf l ++ (s ∷ [])
-  phones-append h = ap phonesOf (append-room h) ∙ phones-of-list _
+pub push-room : (s : List ℕ) (ps : List (List ℕ)) → length ps < 32 → pushed s ps ≡ becomes (ps ++ (s ∷ []))
+unfolding pushed
+push-room s ps h = rw (lt-ltb _ _ h)

@@ -8,7 +8,7 @@ use native.Mathlib.Omega.{arith}
 use lib.ListN.{length}
 use Rattle.arrays.specs.Arrays.{sameBytes}
 use Rattle.arrays.proofs.Laws.{cond-same, same-refl, same-length, same-bytes-is}
-use Rattle.phones.specs.Phones.{someOf, kept, contains, removeAll}
+use Rattle.phones.specs.Ids.{someOf, kept, contains, removeAll}
 use Rattle.phones.proofs.Removal.{some-snoc}
 use Rattle.phones.proofs.Range.{Short}
 

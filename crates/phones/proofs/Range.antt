@@ -11,7 +11,8 @@ use Rattle.arrays.specs.Arrays.{sameBytes}
 use Rattle.arrays.proofs.Laws.{padded-take}
 use Rattle.phones.specs.declared.ShortId.{ShortId}
 use Rattle.phones.specs.declared.PhoneList.{PhoneList}
-use Rattle.phones.specs.Phones.{idBytes, idOf, tooLong, idInRange, someOf, kept, phonesOf, listOf, removeFirst, removeAll, retainIn, appended, allInRange, listInRange}
+use Rattle.phones.specs.Ids.{someOf, kept, removeFirst, removeAll, retainIn, stays, becomes, pushed}
+use Rattle.phones.specs.Phones.{idBytes, idOf, tooLong, idInRange, phonesOf, listOf, laid, allInRange, listInRange}
 use Rattle.phones.proofs.Counts.{kept-length, first-length}
 
 -- each of these strings fits an id
@@ -114,10 +115,10 @@ range-first s l h =
     let m = first-length s (phonesOf l) in
     list-range (removeFirst s (phonesOf l)) (omega arith) (short-first s (phonesOf l) (range-short l h))
 
-pub range-append : (l : PhoneList) (s : List ℕ) → listInRange l ≡ true → length s ≤ 32 → listInRange (appended l s) ≡ true
-unfolding appended
+pub range-append : (l : PhoneList) (s : List ℕ) → listInRange l ≡ true → length s ≤ 32 → listInRange (laid l (pushed s (phonesOf l))) ≡ true
+unfolding pushed
 range-append l s h k = go (ltb (length (phonesOf l)) 32) refl
   where
-    go : (t : Bool) → ltb (length (phonesOf l)) 32 ≡ t → listInRange (cond t (listOf (phonesOf l ++ (s ∷ []))) l) ≡ true
+    go : (t : Bool) → ltb (length (phonesOf l)) 32 ≡ t → listInRange (laid l (cond t (becomes (phonesOf l ++ (s ∷ []))) stays)) ≡ true
     go true e = list-range (phonesOf l ++ (s ∷ [])) (rw length-append (omega (arith, ltb-true (length (phonesOf l)) 32 e))) (short-snoc s (phonesOf l) k (range-short l h))
     go false e = h

@@ -9,7 +9,8 @@ use Rattle.arrays.specs.Arrays.{sameBytes}
 use Rattle.arrays.proofs.Laws.{cond-same}
 use Rattle.phones.specs.declared.ShortId.{ShortId}
 use Rattle.phones.specs.declared.PhoneList.{PhoneList}
-use Rattle.phones.specs.Phones.{idBytes, idOf, listOf, phonesOf, someOf, kept, contains, removeFirst, removeAll}
+use Rattle.phones.specs.Ids.{someOf, kept, contains, removeFirst, removeAll}
+use Rattle.phones.specs.Phones.{idBytes, idOf, listOf, phonesOf}
 use Rattle.phones.proofs.Laws.{noId}
 use Rattle.phones.proofs.Build.{stored, made-count, take-more, kept-snoc}
 

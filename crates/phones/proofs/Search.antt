@@ -7,7 +7,8 @@ use native.Mathlib.Numerals.{add-one}
 use lib.ListN.{length, drop, getD, drop-of-length-le}
 use lib.Seq.{drop-cons}
 use Rattle.phones.specs.declared.PhoneList.{PhoneList}
-use Rattle.phones.specs.Phones.{someOf, idBytes, phonesOf}
+use Rattle.phones.specs.Ids.{someOf}
+use Rattle.phones.specs.Phones.{idBytes, phonesOf}
 use Rattle.phones.proofs.Laws.{noId, phones-at}
 
 pub some-step : {A : Type 0} (f : A → Bool) (xs : List A) (d : A) (i : ℕ) → i < length xs

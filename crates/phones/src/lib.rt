@@ -7,8 +7,9 @@ ghost use mathlib.Core.List.{[]};
 ghost use Prim.Native.Nat.{min};
 ghost use lib.ListN.{length, getD};
 ghost use Rattle.arrays.specs.Arrays.{sameBytes};
-ghost use Rattle.phones.specs.Phones.{idBytes, idOf, madeId, idInRange, phonesOf, listOf, anyIn, removeFirst, removeAll, retainIn, appended, listInRange};
-ghost use Rattle.phones.specs.Phones as Phones;
+ghost use Rattle.phones.specs.Ids.{anyIn, removeFirst, removeAll, retainIn, pushed};
+ghost use Rattle.phones.specs.Phones.{idBytes, idOf, madeId, idInRange, phonesOf, listOf, laid, listInRange};
+ghost use Rattle.phones.specs.Ids as Ids;
 
 // An id of at most 32 bytes: a phone's, or a method's.
 pub struct ShortId {
@@ -115,7 +116,7 @@ pub fn phone_at(l: PhoneList, i: usize) -> ShortId
 
 // Whether the byte string `s` is in the list.
 pub fn contains(l: PhoneList, s: &[u8]) -> bool
-    ensures { λ r. ⌜ r ≡ Phones.contains (now (s .entry)) (phonesOf l) ⌝ }
+    ensures { λ r. ⌜ r ≡ Ids.contains (now (s .entry)) (phonesOf l) ⌝ }
 {
     let n = clamp(l.count);
     let mut at = 0;
@@ -131,7 +132,7 @@ pub fn contains(l: PhoneList, s: &[u8]) -> bool
 
 // Whether an id is in the list.
 pub fn contains_id(l: PhoneList, p: ShortId) -> bool
-    ensures { λ r. ⌜ r ≡ Phones.contains (idBytes p) (phonesOf l) ⌝ }
+    ensures { λ r. ⌜ r ≡ Ids.contains (idBytes p) (phonesOf l) ⌝ }
 {
     let bytes = p.bytes;
     let n = clamp(p.len);
@@ -241,7 +242,7 @@ pub fn canonical(l: PhoneList) -> PhoneList
 
 // The list with one id more; a full list stays as it is.
 pub fn append(l: PhoneList, p: ShortId) -> PhoneList
-    ensures { λ r. ⌜ r ≡ appended l (idBytes p) ⌝ }
+    ensures { λ r. ⌜ r ≡ laid l (pushed (idBytes p) (phonesOf l)) ⌝ }
 {
     let k = clamp(l.count);
     if k < 32 {

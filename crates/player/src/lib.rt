@@ -115,7 +115,7 @@ pub fn first_gate() -> Gate
     };
     let none = state::running::no_method();
     let list = [none; 8];
-    let made = gate::new_gate(settings, list, 0);
+    let made = gate_sessions::new_gate(settings, list, 0);
     made.gate
 }
 

@@ -1,5 +1,5 @@
 -- A policy with one part changed, what is raised for it, and the relock count (can.rs, can_probe.rs).
-use mathlib.Core.Bool.{Bool, true, false}
+use mathlib.Core.Bool.{Bool}
 use Prim.Native.Nat.{_+_, _%_, _^_}
 use Rattle.state.specs.declared.Car.{Car}
 use Rattle.state.specs.declared.Identity.{Identity}
@@ -9,9 +9,8 @@ use Rattle.state.specs.declared.Policy.{Policy}
 use Rattle.state.specs.declared.Probe.{Probe}
 use Rattle.state.specs.declared.Core.{Core}
 use Rattle.state.specs.declared.Answer.{Answer}
-use Rattle.state.specs.declared.Answer.the-variants.{Yes, No}
 use Rattle.state.specs.declared.Said.{Said}
-use Rattle.state.specs.Parts.{withPolicy}
+use Rattle.state.specs.Parts.{withPolicy, withRelocks}
 use Rattle.state.specs.Replies.{readOnlyChanged, reply}
 use Rattle.policy.specs.Policy.{isReadOnly}
 
@@ -35,11 +34,7 @@ withApproval a approval = record { approval = approval; unlocked = a .unlocked; 
 abbrev pub withVehicleReadOnly : Buses → Bool → Buses
 withVehicleReadOnly b flag = record { «vehicle_read_only» = flag; logging = b .logging; fd = b .fd }
 
--- ---- answers and signals
-
-abbrev pub yesNo : Bool → Answer
-yesNo true = Yes
-yesNo false = No
+-- ---- signals
 
 -- notify_can_read_only_changed after a change of the policy
 unfoldable pub policyChanged : Core → Answer → Policy → Said
@@ -49,4 +44,4 @@ policyChanged c a p = reply (withPolicy c p) a (readOnlyChanged (isReadOnly p))
 
 -- note_relock: the count wraps
 unfoldable pub relocked : Probe → Probe
-relocked p = record { window = p .window; attempts = p .attempts; relocks = (p .relocks + 1) % 2 ^ 32; marks = p .marks }
+relocked b = withRelocks b ((b .relocks + 1) % 2 ^ 32)

@@ -8,14 +8,8 @@ use state::Policy;
 use state::Probe;
 use state::Said;
 ghost use mathlib.Core.Path.{_≡_};
-ghost use Rattle.policy_changes.specs.Changes.{withAccess, withBuses, withIdentity, yesNo};
+ghost use Rattle.policy_changes.specs.Changes.{withAccess, withBuses, withIdentity};
 ghost use Rattle.policy_changes.specs.Changes as Changes;
-
-pub fn yes_no(b: bool) -> Answer
-    ensures { λ r. ⌜ r ≡ yesNo b ⌝ }
-{
-    if b { Answer::Yes } else { Answer::No }
-}
 
 pub fn with_identity(p: Policy, identity: Identity) -> Policy
     ensures { λ r. ⌜ r ≡ withIdentity p identity ⌝ }

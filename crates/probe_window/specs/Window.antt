@@ -104,6 +104,3 @@ markedSent w i = record {
   relocks = w .relocks;
   sent = set (w .sent) i true;
 }
-
-abbrev pub withWindow : Probe → Window → Probe
-withWindow b w = record { window = w; attempts = b .attempts; relocks = b .relocks; marks = b .marks }

@@ -12,7 +12,7 @@ ghost use lib.ListN.{set, take};
 ghost use Prim.Native.Nat.{min};
 ghost use Rattle.arrays.specs.Arrays.{padded};
 ghost use Rattle.frames.specs.Frames.{isEntry};
-ghost use Rattle.probe_window.specs.Window.{idsInRange, isAwake, isBusAwake, isListenOnly, isOpen, isWithinTime, markOf, markedSent, newWindow, noFrame, noWindow, probeNeeded, sinceMark, unsentIn, withWindow};
+ghost use Rattle.probe_window.specs.Window.{idsInRange, isAwake, isBusAwake, isListenOnly, isOpen, isWithinTime, markOf, markedSent, newWindow, noFrame, noWindow, probeNeeded, sinceMark, unsentIn};
 
 // The place of the first entry of a probe that is a given frame and was not sent yet.
 pub enum Unsent {
@@ -238,14 +238,6 @@ pub fn new_window(bus: u8, lent: [ProbeFrame; 4], count: usize, clock: u64, relo
         relocks,
         sent,
     }
-}
-
-pub fn with_window(b: Probe, w: Window) -> Probe
-    ensures { λ r. ⌜ r ≡ withWindow b w ⌝ }
-{
-    let mut p = b;
-    p.window = w;
-    p
 }
 
 // The window with the frame at a place marked; past the last place nothing changes.

@@ -12,21 +12,21 @@ use answers::TrustAnswer;
 use phone_trust::Trust;
 use policy::Approval;
 use state::Answer;
-use state::Core;
 use state::Gate;
 ghost use mathlib.Core.Path.{_≡_};
-ghost use Rattle.policy_changes.specs.Changes.{yesNo};
+ghost use Rattle.state.specs.Replies.{yesNo};
+ghost use Rattle.state.specs.View.{view};
 ghost use Rattle.answers.specs.Answers as Answers;
 ghost use Rattle.answers.specs.Query.{plain, approval, access, phones, trust, peer, phoneAccess, methods, challenge, saved};
 ghost use Rattle.answers.specs.Query.{isCanReadOnly, canReadOnlyReason, isCarIdentityConfirmed, isCarFingerprintConfirmed, canReadWriteApproval, hasCanDevWriteLock, isCanDevWriteUnlocked, canAccessState, platformId, isCanLogging, isCanFdBus, isCanBusReadOnly, isCanBusListenOnly, isPhonePaired, pairedPhoneCount, listPairedPhones, bleMaxBondedPhones, isPhoneValidated, carHasValidatedPhone, phoneTrustLevel, blePeer, encodePhoneValidations, phoneAccessState, validationMethods, sessionFor, currentValidationChallenge};
-ghost use Rattle.definition.specs.Gate.{ask, asked, step};
+ghost use Rattle.definition.specs.Gate.{ask, answered, step};
 
 // Yes or no, or 25.
-fn answer_yes_no(core: Core, b: bool) -> Answer
-    ensures { λ r. ⌜ r ≡ Answers.ifInRange core (yesNo b) ⌝ }
+fn answer_yes_no(g: Gate, b: bool) -> Answer
+    ensures { λ r. ⌜ r ≡ Answers.ifInRange (view g) (yesNo b) ⌝ }
 {
-    if range::in_range(core) {
-        return policy_changes::yes_no(b);
+    if range::in_range(g) {
+        return state::replies::yes_no(b);
     }
     Answer::BadSettings
 }
@@ -34,19 +34,19 @@ fn answer_yes_no(core: Core, b: bool) -> Answer
 // ---- the policy
 
 pub fn is_can_read_only(g: Gate) -> Answer
-    ensures { λ r. ⌜ asked g (plain r) ≡ step g (ask isCanReadOnly) ⌝ }
+    ensures { λ r. ⌜ answered g (plain r) ≡ step g (ask isCanReadOnly) ⌝ }
 {
     let core = g.core;
     let policy = core.policy;
-    answer_yes_no(core, policy::is_can_read_only(policy))
+    answer_yes_no(g, policy::is_can_read_only(policy))
 }
 
 // 1 to 7, or 0 for none.
 pub fn can_read_only_reason(g: Gate) -> Answer
-    ensures { λ r. ⌜ asked g (plain r) ≡ step g (ask canReadOnlyReason) ⌝ }
+    ensures { λ r. ⌜ answered g (plain r) ≡ step g (ask canReadOnlyReason) ⌝ }
 {
-    let core = g.core;
-    if range::in_range(core) {
+    if range::in_range(g) {
+        let core = g.core;
         let policy = core.policy;
         return Answer::Reason(policy::can_read_only_reason(policy));
     }
@@ -54,25 +54,25 @@ pub fn can_read_only_reason(g: Gate) -> Answer
 }
 
 pub fn is_car_identity_confirmed(g: Gate) -> Answer
-    ensures { λ r. ⌜ asked g (plain r) ≡ step g (ask isCarIdentityConfirmed) ⌝ }
+    ensures { λ r. ⌜ answered g (plain r) ≡ step g (ask isCarIdentityConfirmed) ⌝ }
 {
     let core = g.core;
-    answer_yes_no(core, core.policy.identity.confirmed)
+    answer_yes_no(g, core.policy.identity.confirmed)
 }
 
 pub fn is_car_fingerprint_confirmed(g: Gate) -> Answer
-    ensures { λ r. ⌜ asked g (plain r) ≡ step g (ask isCarFingerprintConfirmed) ⌝ }
+    ensures { λ r. ⌜ answered g (plain r) ≡ step g (ask isCarFingerprintConfirmed) ⌝ }
 {
     let core = g.core;
     let identity = core.policy.identity;
-    answer_yes_no(core, policy::is_car_fingerprint_confirmed(identity))
+    answer_yes_no(g, policy::is_car_fingerprint_confirmed(identity))
 }
 
 pub fn can_read_write_approval(g: Gate) -> ApprovalAnswer
-    ensures { λ r. ⌜ asked g (approval r) ≡ step g (ask canReadWriteApproval) ⌝ }
+    ensures { λ r. ⌜ answered g (approval r) ≡ step g (ask canReadWriteApproval) ⌝ }
 {
-    let core = g.core;
-    if range::in_range(core) {
+    if range::in_range(g) {
+        let core = g.core;
         let identity = core.policy.identity;
         let access = core.policy.access;
         let found = policy::can_read_write_approval(identity, access);
@@ -88,26 +88,26 @@ pub fn can_read_write_approval(g: Gate) -> ApprovalAnswer
 }
 
 pub fn has_can_dev_write_lock(g: Gate) -> Answer
-    ensures { λ r. ⌜ asked g (plain r) ≡ step g (ask hasCanDevWriteLock) ⌝ }
+    ensures { λ r. ⌜ answered g (plain r) ≡ step g (ask hasCanDevWriteLock) ⌝ }
 {
     let core = g.core;
     let access = core.policy.access;
-    answer_yes_no(core, policy::has_can_dev_write_lock(access))
+    answer_yes_no(g, policy::has_can_dev_write_lock(access))
 }
 
 pub fn is_can_dev_write_unlocked(g: Gate) -> Answer
-    ensures { λ r. ⌜ asked g (plain r) ≡ step g (ask isCanDevWriteUnlocked) ⌝ }
+    ensures { λ r. ⌜ answered g (plain r) ≡ step g (ask isCanDevWriteUnlocked) ⌝ }
 {
     let core = g.core;
     let access = core.policy.access;
-    answer_yes_no(core, policy::is_can_dev_write_unlocked(access))
+    answer_yes_no(g, policy::is_can_dev_write_unlocked(access))
 }
 
 pub fn can_access_state(g: Gate) -> AccessAnswer
-    ensures { λ r. ⌜ asked g (access r) ≡ step g (ask canAccessState) ⌝ }
+    ensures { λ r. ⌜ answered g (access r) ≡ step g (ask canAccessState) ⌝ }
 {
-    let core = g.core;
-    if range::in_range(core) {
+    if range::in_range(g) {
+        let core = g.core;
         let policy = core.policy;
         return shown::access_of(policy);
     }
@@ -115,46 +115,46 @@ pub fn can_access_state(g: Gate) -> AccessAnswer
 }
 
 pub fn platform_id(g: Gate) -> Answer
-    ensures { λ r. ⌜ asked g (plain r) ≡ step g (ask platformId) ⌝ }
+    ensures { λ r. ⌜ answered g (plain r) ≡ step g (ask platformId) ⌝ }
 {
-    let core = g.core;
-    if range::in_range(core) {
+    if range::in_range(g) {
+        let core = g.core;
         return Answer::Number(core.policy.identity.platform);
     }
     Answer::BadSettings
 }
 
 pub fn is_can_logging(g: Gate) -> Answer
-    ensures { λ r. ⌜ asked g (plain r) ≡ step g (ask isCanLogging) ⌝ }
+    ensures { λ r. ⌜ answered g (plain r) ≡ step g (ask isCanLogging) ⌝ }
 {
     let core = g.core;
-    answer_yes_no(core, core.policy.buses.logging)
+    answer_yes_no(g, core.policy.buses.logging)
 }
 
 pub fn is_can_fd_bus(g: Gate, bus: u8) -> Answer
-    ensures { λ r. ⌜ asked g (plain r) ≡ step g (ask (isCanFdBus bus)) ⌝ }
+    ensures { λ r. ⌜ answered g (plain r) ≡ step g (ask (isCanFdBus bus)) ⌝ }
 {
     let core = g.core;
     let buses = core.policy.buses;
-    answer_yes_no(core, policy::is_can_fd_bus(buses, bus))
+    answer_yes_no(g, policy::is_can_fd_bus(buses, bus))
 }
 
 pub fn is_can_bus_read_only(g: Gate, bus: u8) -> Answer
-    ensures { λ r. ⌜ asked g (plain r) ≡ step g (ask (isCanBusReadOnly bus)) ⌝ }
+    ensures { λ r. ⌜ answered g (plain r) ≡ step g (ask (isCanBusReadOnly bus)) ⌝ }
 {
     let core = g.core;
     let policy = core.policy;
-    answer_yes_no(core, policy::is_can_bus_read_only(policy, bus))
+    answer_yes_no(g, policy::is_can_bus_read_only(policy, bus))
 }
 
 pub fn is_can_bus_listen_only(g: Gate, bus: u8, clock: u64) -> Answer
-    ensures { λ r. ⌜ asked g (plain r) ≡ step g (ask (isCanBusListenOnly bus clock)) ⌝ }
+    ensures { λ r. ⌜ answered g (plain r) ≡ step g (ask (isCanBusListenOnly bus clock)) ⌝ }
 {
     let core = g.core;
     let policy = core.policy;
     let probe = core.probe;
     answer_yes_no(
-        core,
+        g,
         probe_window::is_can_bus_listen_only(policy, probe, bus, clock),
     )
 }
@@ -162,29 +162,27 @@ pub fn is_can_bus_listen_only(g: Gate, bus: u8, clock: u64) -> Answer
 // ---- phones
 
 pub fn is_phone_paired(g: Gate, id: &[u8]) -> Answer
-    ensures { λ r. ⌜ asked g (plain r) ≡ step g (ask (isPhonePaired (now (id .entry)))) ⌝ }
+    ensures { λ r. ⌜ answered g (plain r) ≡ step g (ask (isPhonePaired (now (id .entry)))) ⌝ }
 {
-    let core = g.core;
-    answer_yes_no(core, phone_trust::is_paired(core, id))
+    let phones = g.phones;
+    answer_yes_no(g, phone_trust::is_paired(phones, id))
 }
 
 pub fn paired_phone_count(g: Gate) -> Answer
-    ensures { λ r. ⌜ asked g (plain r) ≡ step g (ask pairedPhoneCount) ⌝ }
+    ensures { λ r. ⌜ answered g (plain r) ≡ step g (ask pairedPhoneCount) ⌝ }
 {
-    let core = g.core;
-    if range::in_range(core) {
-        let paired = core.paired;
+    if range::in_range(g) {
+        let paired = g.phones.paired;
         return Answer::Count(phones::count(paired));
     }
     Answer::BadSettings
 }
 
 pub fn list_paired_phones(g: Gate) -> PhonesAnswer
-    ensures { λ r. ⌜ asked g (phones r) ≡ step g (ask listPairedPhones) ⌝ }
+    ensures { λ r. ⌜ answered g (phones (r .answer) (r .phones)) ≡ step g (ask listPairedPhones) ⌝ }
 {
-    let core = g.core;
-    if range::in_range(core) {
-        let paired = core.paired;
+    if range::in_range(g) {
+        let paired = g.phones.paired;
         let list = phones::canonical(paired);
         return PhonesAnswer {
             answer: Answer::Done,
@@ -199,35 +197,38 @@ pub fn list_paired_phones(g: Gate) -> PhonesAnswer
 }
 
 pub fn ble_max_bonded_phones(g: Gate) -> Answer
-    ensures { λ r. ⌜ asked g (plain r) ≡ step g (ask bleMaxBondedPhones) ⌝ }
+    ensures { λ r. ⌜ answered g (plain r) ≡ step g (ask bleMaxBondedPhones) ⌝ }
 {
-    let core = g.core;
-    if range::in_range(core) {
+    if range::in_range(g) {
+        let core = g.core;
         return Answer::Count(core.settings.bonded);
     }
     Answer::BadSettings
 }
 
 pub fn is_phone_validated(g: Gate, id: &[u8]) -> Answer
-    ensures { λ r. ⌜ asked g (plain r) ≡ step g (ask (isPhoneValidated (now (id .entry)))) ⌝ }
+    ensures { λ r. ⌜ answered g (plain r) ≡ step g (ask (isPhoneValidated (now (id .entry)))) ⌝ }
 {
-    let core = g.core;
-    answer_yes_no(core, phone_trust::is_phone_validated(core, id))
+    let identity = g.core.policy.identity;
+    let phones = g.phones;
+    answer_yes_no(g, phone_trust::is_phone_validated(identity, phones, id))
 }
 
 pub fn car_has_validated_phone(g: Gate) -> Answer
-    ensures { λ r. ⌜ asked g (plain r) ≡ step g (ask carHasValidatedPhone) ⌝ }
+    ensures { λ r. ⌜ answered g (plain r) ≡ step g (ask carHasValidatedPhone) ⌝ }
 {
-    let core = g.core;
-    answer_yes_no(core, phone_trust::car_has_validated_phone(core))
+    let identity = g.core.policy.identity;
+    let phones = g.phones;
+    answer_yes_no(g, phone_trust::car_has_validated_phone(identity, phones))
 }
 
 pub fn phone_trust_level(g: Gate, id: &[u8]) -> TrustAnswer
-    ensures { λ r. ⌜ asked g (trust r) ≡ step g (ask (phoneTrustLevel (now (id .entry)))) ⌝ }
+    ensures { λ r. ⌜ answered g (trust r) ≡ step g (ask (phoneTrustLevel (now (id .entry)))) ⌝ }
 {
-    let core = g.core;
-    if range::in_range(core) {
-        let level = phone_trust::phone_trust_level(core, id);
+    if range::in_range(g) {
+        let identity = g.core.policy.identity;
+        let phones = g.phones;
+        let level = phone_trust::phone_trust_level(identity, phones, id);
         return TrustAnswer {
             answer: Answer::Done,
             trust: level,
@@ -241,21 +242,21 @@ pub fn phone_trust_level(g: Gate, id: &[u8]) -> TrustAnswer
 
 // The connected phone, if any, and whether it is validated.
 pub fn ble_peer(g: Gate) -> PeerAnswer
-    ensures { λ r. ⌜ asked g (peer r) ≡ step g (ask blePeer) ⌝ }
+    ensures { λ r. ⌜ answered g (peer r) ≡ step g (ask blePeer) ⌝ }
 {
-    let core = g.core;
-    if range::in_range(core) {
-        return shown::peer_of(core);
+    if range::in_range(g) {
+        let core = g.core;
+        let phones = g.phones;
+        return shown::peer_of(core, phones);
     }
     shown::no_peer(Answer::BadSettings)
 }
 
 pub fn encode_phone_validations(g: Gate) -> RecordAnswer
-    ensures { λ r. ⌜ asked g (saved r) ≡ step g (ask encodePhoneValidations) ⌝ }
+    ensures { λ r. ⌜ answered g (saved r) ≡ step g (ask encodePhoneValidations) ⌝ }
 {
-    let core = g.core;
-    if range::in_range(core) {
-        let v = core.validations;
+    if range::in_range(g) {
+        let v = g.phones.store;
         let stored = validations::record_for(v);
         return RecordAnswer {
             answer: Answer::Done,
@@ -272,30 +273,31 @@ pub fn encode_phone_validations(g: Gate) -> RecordAnswer
 // ---- sessions and methods
 
 pub fn phone_access_state(g: Gate, clock: u64) -> PhoneAccessAnswer
-    ensures { λ r. ⌜ asked g (phoneAccess r) ≡ step g (ask (phoneAccessState clock)) ⌝ }
+    ensures { λ r. ⌜ answered g (phoneAccess r) ≡ step g (ask (phoneAccessState clock)) ⌝ }
 {
-    let core = g.core;
-    if range::in_range(core) {
-        return shown::phone_access_of(core, clock);
+    if range::in_range(g) {
+        let core = g.core;
+        let phones = g.phones;
+        return shown::phone_access_of(core, phones, clock);
     }
     shown::no_access(Answer::BadSettings)
 }
 
 pub fn validation_methods(g: Gate) -> MethodsAnswer
-    ensures { λ r. ⌜ asked g (methods r) ≡ step g (ask validationMethods) ⌝ }
+    ensures { λ r. ⌜ answered g (methods r) ≡ step g (ask validationMethods) ⌝ }
 {
-    let core = g.core;
-    if range::in_range(core) {
+    if range::in_range(g) {
+        let core = g.core;
         return shown::methods_of(core);
     }
     shown::no_methods()
 }
 
 pub fn session_for(g: Gate, phone: &[u8], clock: u64) -> Answer
-    ensures { λ r. ⌜ asked g (plain r) ≡ step g (ask (sessionFor (now (phone .entry)) clock)) ⌝ }
+    ensures { λ r. ⌜ answered g (plain r) ≡ step g (ask (sessionFor (now (phone .entry)) clock)) ⌝ }
 {
-    let core = g.core;
-    if range::in_range(core) {
+    if range::in_range(g) {
+        let core = g.core;
         return shown::session_shown(core, phone, clock);
     }
     Answer::BadSettings
@@ -303,10 +305,10 @@ pub fn session_for(g: Gate, phone: &[u8], clock: u64) -> Answer
 
 // The only query that shows the digits.
 pub fn current_validation_challenge(g: Gate) -> ChallengeAnswer
-    ensures { λ r. ⌜ asked g (challenge r) ≡ step g (ask currentValidationChallenge) ⌝ }
+    ensures { λ r. ⌜ answered g (challenge r) ≡ step g (ask currentValidationChallenge) ⌝ }
 {
-    let core = g.core;
-    if range::in_range(core) {
+    if range::in_range(g) {
+        let core = g.core;
         let held = g.code;
         return shown::challenge_now(core, held);
     }

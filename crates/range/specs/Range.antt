@@ -4,17 +4,15 @@ use mathlib.Core.List.{List, [], _∷_}
 use Prim.Native.Nat.{ℕ}
 use lib.Dec.{ltb}
 use lib.ListN.{take}
-use Rattle.phones.specs.Phones.{idBytes, idInRange, listInRange}
+use Rattle.phones.specs.Phones.{idBytes, idInRange}
 use Rattle.state.specs.declared.Method.{Method}
 use Rattle.state.specs.declared.Settings.{Settings}
 use Rattle.state.specs.declared.Methods.{Methods}
 use Rattle.state.specs.declared.Session.{Session}
 use Rattle.state.specs.declared.Window.{Window}
 use Rattle.state.specs.declared.Core.{Core}
-use Rattle.state.specs.declared.Answer.the-variants.{BadSettings}
-use Rattle.state.specs.declared.Said.{Said}
 use Rattle.state.specs.Running.{codeInProgress}
-use Rattle.state.specs.Replies.{leave}
+use Rattle.state.specs.View.{View}
 
 -- x is from low to high
 unfoldable pub within : ℕ → ℕ → ℕ → Bool
@@ -67,19 +65,15 @@ sessionFits settings m s =
 unfoldable pub windowFits : Window → Bool
 windowFits w = cond (w .present) (within 1 4 (w .count)) true
 
--- 01, Lists: the counts and lengths of both lists, and the length of the peer's id
-unfoldable pub phonesFit : Core → Bool
-phonesFit c = listInRange (c .paired) && listInRange (c .validations .phones) && idInRange (c .peer)
-
--- 01, New gate: no count, length, method place or setting is out of range
-unfoldable pub inRange : Core → Bool
-inRange c =
+-- 01, New gate: no count, length, method place or setting of the core is out of range
+unfoldable pub coreFits : Core → Bool
+coreFits c =
     settingsFit (c .settings)
     && methodsFit (c .methods)
-    && phonesFit c
+    && idInRange (c .peer)
     && sessionFits (c .settings) (c .methods) (c .validation .session)
     && windowFits (c .probe .window)
 
--- 01, New gate: a gate out of range gets 25 first, and stays unchanged
-unfoldable pub served : Core → Said → Said
-served c o = cond (inRange c) o (leave c BadSettings)
+-- 01, New gate: a gate out of range gets 25 first. Lists: the counts and lengths of both
+unfoldable pub inRange : View → Bool
+inRange v = coreFits (v .core) && v .pairedFits && v .storeFits

@@ -1,13 +1,15 @@
 // The range of a lent gate: out of it every call answers 25.
 use state::Core;
+use state::Gate;
 use state::Method;
 use state::Methods;
 use state::Session;
 use state::Settings;
 use state::Window;
 ghost use mathlib.Core.Path.{_≡_};
+ghost use Rattle.state.specs.View.{view};
 ghost use Rattle.range.specs.Range as Range;
-ghost use Rattle.range.specs.Range.{settingsFit, methodFits, methodsIn, methodsFit, triesFit, sessionFits, windowFits, phonesFit, inRange};
+ghost use Rattle.range.specs.Range.{settingsFit, methodFits, methodsIn, methodsFit, triesFit, sessionFits, windowFits, coreFits, inRange};
 
 pub fn within(low: u64, high: u64, x: u64) -> bool
     ensures { λ r. ⌜ r ≡ Range.within low high x ⌝ }
@@ -129,39 +131,36 @@ fn window_fits(w: Window) -> bool
     true
 }
 
-// The lists and the peer.
-fn phones_fit(c: Core) -> bool
-    ensures { λ r. ⌜ r ≡ phonesFit c ⌝ }
+fn core_fits(c: Core) -> bool
+    ensures { λ r. ⌜ r ≡ coreFits c ⌝ }
 {
-    let paired = c.paired;
-    if phones::list_in_range(paired) {
-        let validations = c.validations;
-        let validated = validations.phones;
-        if phones::list_in_range(validated) {
+    let settings = c.settings;
+    if settings_fit(settings) {
+        let methods = c.methods;
+        if methods_fit(methods) {
             let peer = c.peer;
-            return phones::id_in_range(peer);
+            if phones::id_in_range(peer) {
+                let session = c.validation.session;
+                if session_fits(settings, methods, session) {
+                    let window = c.probe.window;
+                    return window_fits(window);
+                }
+            }
         }
     }
     false
 }
 
 // Whether a lent gate is served; otherwise every call answers 25.
-pub fn in_range(c: Core) -> bool
-    ensures { λ r. ⌜ r ≡ inRange c ⌝ }
+pub fn in_range(g: Gate) -> bool
+    ensures { λ r. ⌜ r ≡ inRange (view g) ⌝ }
 {
-    let settings = c.settings;
-    if settings_fit(settings) {
-        let methods = c.methods;
-        if methods_fit(methods) {
-            if phones_fit(c) {
-                let validation = c.validation;
-                let session = validation.session;
-                if session_fits(settings, methods, session) {
-                    let probe = c.probe;
-                    let window = probe.window;
-                    return window_fits(window);
-                }
-            }
+    let core = g.core;
+    if core_fits(core) {
+        let paired = g.phones.paired;
+        if phones::list_in_range(paired) {
+            let validated = g.phones.store.phones;
+            return phones::list_in_range(validated);
         }
     }
     false

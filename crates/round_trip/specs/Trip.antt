@@ -5,17 +5,18 @@ use mathlib.Core.Path.{_≡_}
 use mathlib.Core.Bool.{false}
 use mathlib.Core.List.{List, []}
 use lib.ListN.{length, take}
-use Rattle.phones.specs.Phones.{contains, phonesOf, listOf}
+use Rattle.phones.specs.Ids.{contains}
+use Rattle.phones.specs.Phones.{listOf}
 use Rattle.saved_record.specs.declared.SavedRecord.{SavedRecord}
 use Rattle.saved_record.specs.SavedRecord.{recordOf}
 use Rattle.state.specs.declared.Validations.{Validations}
 use Rattle.state.specs.declared.Gate.{Gate}
 use Rattle.state.specs.declared.Answer.the-variants.{Done}
 use Rattle.state.specs.Answers.{numbered}
-use Rattle.state.specs.Parts.{withValidations}
-use Rattle.state.specs.Replies.{phoneAccessChanged}
+use Rattle.state.specs.Replies.{noS, phoneAccessChanged, sending}
+use Rattle.state.specs.View.{Store, storeIn}
 use Rattle.answers.specs.Query.{plain, saved, encodePhoneValidations}
-use Rattle.definition.specs.Gate.{Given, change, ask, restorePhoneValidations, step}
+use Rattle.definition.specs.Gate.{Given, nothing, onLists, ask, restorePhoneValidations, step}
 use Rattle.stays_in_range.specs.Stays.{InRange}
 
 -- the gate answers done and this record
@@ -28,34 +29,35 @@ used r = take (r .len) (r .bytes)
 
 -- what the gate gives if it is to restore these bytes
 abbrev pub restoring : Gate → List ℕ → Given
-restoring h bytes = step h (change (restorePhoneValidations bytes))
+restoring h bytes = step h (onLists (restorePhoneValidations bytes))
 
--- the store of a car and these ids, in a canonical list: byte for byte the store that they are of, if its list is canonical
-abbrev pub storeWith : List ℕ → List (List ℕ) → Validations
-storeWith car ids = record { car = car; phones = listOf ids }
+-- a store in a canonical list: byte for byte the store that it is of, if that one's list is canonical
+abbrev pub storeWith : Store → Validations
+storeWith s = record { car = s .car; phones = listOf (s .phones) }
 
 -- done, A V raised, and the gate as it was but for its store
 abbrev pub doneWith : Gate → Validations → Given
 doneWith h v = record {
   numbered = numbered Done;
   answer = plain Done;
-  signals = phoneAccessChanged;
-  gate = record { core = withValidations (h .core) v; code = h .code };
+  signals = sending phoneAccessChanged noS;
+  lent = nothing;
+  gate = record { core = h .core; phones = record { paired = h .phones .paired; store = v }; code = h .code };
 }
 
 -- a store with something to save: one phone or more, none with an empty id; and what its type gives, car is a [u8; 32]
-pub record Storable (v : Validations) : Type 0 where
-  pub digest : length (v .car) ≡ 32
-  pub many : 0 < length (phonesOf (v .phones))
-  pub named : contains [] (phonesOf (v .phones)) ≡ false
+pub record Storable (s : Store) : Type 0 where
+  pub digest : length (s .car) ≡ 32
+  pub many : 0 < length (s .phones)
+  pub named : contains [] (s .phones) ≡ false
 
 -- ---- the claims
 
 -- a gate answers a record, and any gate takes its bytes back as the same car and ids
 abbrev pub SavedRestores : Type 0
 SavedRestores =
-    (g h : Gate) → InRange g → InRange h → Storable (g .core .validations)
-    → (r : SavedRecord) × Saves g r × (restoring h (used r) ≡ doneWith h (storeWith (g .core .validations .car) (phonesOf (g .core .validations .phones))))
+    (g h : Gate) → InRange g → InRange h → Storable (storeIn (g .phones .store))
+    → (r : SavedRecord) × Saves g r × (restoring h (used r) ≡ doneWith h (storeWith (storeIn (g .phones .store))))
 
 -- bytes that a gate restores are at most 1,090, and the gate that it leaves answers exactly these bytes and their number
 abbrev pub RestoredSaves : Type 0

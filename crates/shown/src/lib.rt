@@ -1,4 +1,4 @@
-// What the longer answers of the queries hold, on a core in range, and what they hold under 25.
+// What the longer answers of the queries hold, on a gate in range, and what they hold under 25.
 use answers::AccessAnswer;
 use answers::ChallengeAnswer;
 use answers::MethodsAnswer;
@@ -10,8 +10,10 @@ use policy::Approval;
 use state::Answer;
 use state::Challenge;
 use state::Core;
+use state::Identity;
 use state::Method;
 use state::Methods;
+use state::Phones;
 use state::Policy;
 ghost use mathlib.Core.Path.{_≡_};
 ghost use mathlib.Core.Bool.{false};
@@ -21,6 +23,7 @@ ghost use lib.Dec.{ltb};
 ghost use lib.ListN.{length, take};
 ghost use Rattle.arrays.specs.Arrays.{padded};
 ghost use Rattle.phones.specs.Phones.{idBytes, idOf};
+ghost use Rattle.state.specs.View.{listsIn};
 ghost use Rattle.phone_trust.specs.Trust.{isValidated, trustOf};
 ghost use Rattle.state.specs.declared.Answer.the-variants.{BadSettings};
 ghost use Rattle.answers.specs.Answers.{accessStateOf, noAccessState, noPeer, peerOf, isShown, sessionShown, noAccess, phoneAccessOf, canStart, canStartFrom, methodsOf, methodsNow, shownDigits, challengeOf, noChallengeNow, challengeNow};
@@ -81,23 +84,24 @@ fn at_most(n: usize, most: usize) -> usize
     if n < most { n } else { most }
 }
 
-fn is_validated(p: ShortId, core: Core) -> bool
-    ensures { λ r. ⌜ r ≡ isValidated core (idBytes p) ⌝ }
+fn is_validated(p: ShortId, identity: Identity, phones: Phones) -> bool
+    ensures { λ r. ⌜ r ≡ isValidated identity (listsIn phones) (idBytes p) ⌝ }
 {
     let bytes = p.bytes;
     let n = at_most(p.len, 32);
-    phone_trust::is_phone_validated(core, &bytes[..n])
+    phone_trust::is_phone_validated(identity, phones, &bytes[..n])
 }
 
-pub fn peer_of(core: Core) -> PeerAnswer
-    ensures { λ r. ⌜ r ≡ peerOf core ⌝ }
+pub fn peer_of(core: Core, phones: Phones) -> PeerAnswer
+    ensures { λ r. ⌜ r ≡ peerOf core (listsIn phones) ⌝ }
 {
     let peer = core.peer;
     if peer.len == 0 {
         return no_peer(Answer::Nothing);
     }
     let id = phones::clean(peer);
-    let valid = is_validated(peer, core);
+    let identity = core.policy.identity;
+    let valid = is_validated(peer, identity, phones);
     PeerAnswer {
         answer: Answer::Done,
         peer: id,
@@ -154,12 +158,12 @@ pub fn no_access(answer: Answer) -> PhoneAccessAnswer
     }
 }
 
-fn trust_in(p: ShortId, core: Core) -> Trust
-    ensures { λ r. ⌜ r ≡ trustOf core (idBytes p) ⌝ }
+fn trust_in(p: ShortId, identity: Identity, phones: Phones) -> Trust
+    ensures { λ r. ⌜ r ≡ trustOf identity (listsIn phones) (idBytes p) ⌝ }
 {
     let bytes = p.bytes;
     let n = at_most(p.len, 32);
-    phone_trust::phone_trust_level(core, &bytes[..n])
+    phone_trust::phone_trust_level(identity, phones, &bytes[..n])
 }
 
 fn session_of(p: ShortId, core: Core, clock: u64) -> Answer
@@ -170,15 +174,16 @@ fn session_of(p: ShortId, core: Core, clock: u64) -> Answer
     session_shown(core, &bytes[..n], clock)
 }
 
-pub fn phone_access_of(core: Core, clock: u64) -> PhoneAccessAnswer
-    ensures { λ r. ⌜ r ≡ phoneAccessOf core clock ⌝ }
+pub fn phone_access_of(core: Core, phones: Phones, clock: u64) -> PhoneAccessAnswer
+    ensures { λ r. ⌜ r ≡ phoneAccessOf core (listsIn phones) clock ⌝ }
 {
     let peer = core.peer;
     if peer.len == 0 {
         return no_access(Answer::Nothing);
     }
-    let trust = trust_in(peer, core);
-    let car_has_validated = phone_trust::car_has_validated_phone(core);
+    let identity = core.policy.identity;
+    let trust = trust_in(peer, identity, phones);
+    let car_has_validated = phone_trust::car_has_validated_phone(identity, phones);
     let session = session_of(peer, core, clock);
     PhoneAccessAnswer {
         answer: Answer::Done,

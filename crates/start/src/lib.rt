@@ -69,7 +69,7 @@ fn begin(core: Core, phone: &[u8], at: usize, clock: u64, mark: Mark) -> Said
     let method = state::running::method_at(methods, at);
     let kind = method.kind;
     let challenge = challenge_for(core, at, kind);
-    let signals = state::replies::challenge_changed(challenge);
+    let raised = state::replies::challenge_changed(challenge);
     let mut v = core.validation;
     let next = session_times::next_number(v.next);
     v.next = next;
@@ -78,7 +78,7 @@ fn begin(core: Core, phone: &[u8], at: usize, clock: u64, mark: Mark) -> Said
     let reply = session::reply_of(c, s, clock);
     Said {
         answer: Answer::Session(reply),
-        signals,
+        raised,
         shows: mark,
         core: c,
         code: mark,

@@ -1,10 +1,7 @@
 -- The refusals of a call as a list of checks, in the order that document 01 writes them: the first that meets the call refuses it.
 use mathlib.Core.Bool.{Bool, true, cond, not, _&&_}
 use mathlib.Core.List.{List, [], _∷_}
-use Rattle.state.specs.declared.Core.{Core}
 use Rattle.state.specs.declared.Answer.{Answer}
-use Rattle.state.specs.declared.Said.{Said}
-use Rattle.state.specs.Replies.{leave}
 
 pub record Check : Type 0 where
   pub meets : Bool
@@ -14,10 +11,10 @@ infixl 10 _refuses_
 abbrev pub _refuses_ : Bool → Answer → Check
 b refuses a = record { meets = b; answer = a }
 
--- 01, Replies: a refusal changes nothing and raises no signal
-unfoldable pub checked : Core → List Check → Said → Said
-checked c [] o = o
-checked c (k ∷ ks) o = cond (k .meets) (leave c (k .answer)) (checked c ks o)
+-- how a refusal is said comes first: 01, Replies: it changes nothing and raises no signal
+unfoldable pub checked : {A : Type 0} → (Answer → A) → List Check → A → A
+checked refusal [] o = o
+checked refusal (k ∷ ks) o = cond (k .meets) (refusal (k .answer)) (checked refusal ks o)
 
 -- no check meets the call
 unfoldable pub unmet : List Check → Bool

@@ -3,3 +3,4 @@ pub mod Parts
 pub mod Running
 pub mod Replies
 pub mod Checks
+pub mod View

@@ -1,4 +1,4 @@
--- Signals, what an operation says, and what a call gives.
+-- Signals, and what an operation on a core says.
 use mathlib.Core.Bool.{Bool, true, false, cond}
 use mathlib.Core.List.{List}
 use Prim.Native.Nat.{ℕ}
@@ -6,18 +6,18 @@ use lib.ListN.{replicate}
 use Rattle.saved_record.specs.declared.SavedRecord.{SavedRecord}
 use Rattle.state.specs.declared.Car.{Car}
 use Rattle.state.specs.declared.Core.{Core}
-use Rattle.state.specs.declared.Gate.{Gate}
 use Rattle.state.specs.declared.Answer.{Answer}
+use Rattle.state.specs.declared.Answer.the-variants.{Yes, No}
 use Rattle.state.specs.declared.ReadOnlySignal.{ReadOnlySignal}
 use Rattle.state.specs.declared.ApprovalSignal.{ApprovalSignal}
 use Rattle.state.specs.declared.ValidationsSignal.{ValidationsSignal}
 use Rattle.state.specs.declared.Challenge.{Challenge}
 use Rattle.state.specs.declared.ChallengeSignal.{ChallengeSignal}
+use Rattle.state.specs.declared.Raised.{Raised}
 use Rattle.state.specs.declared.Signals.{Signals}
 use Rattle.state.specs.declared.Mark.{Mark}
 use Rattle.state.specs.declared.Mark.the-variants.{Blank, Kept, Fresh}
 use Rattle.state.specs.declared.Said.{Said}
-use Rattle.state.specs.declared.Outcome.{Outcome}
 
 -- ---- channels: A CAN_ACCESS_CHANGED, V the availability's CHANGED, R CAN_READ_ONLY_WATCH, P APPROVAL_TO_STORE,
 -- S VALIDATIONS_TO_STORE, C CHALLENGE
@@ -60,57 +60,62 @@ sentS r = record { sent = true; stored = r }
 abbrev pub sentC : Challenge → ChallengeSignal
 sentC c = record { sent = true; challenge = c }
 
--- ---- signals, by the source's functions
+-- ---- what an operation sends, by the source's functions. S is sent by the call, with the record of the store that it leaves
+
+unfoldable pub nothingRaised : Raised
+nothingRaised = record { access = false; availability = false; readonly = noR; approval = noP; challenge = noC }
+
+-- notify_phone_access_changed: A V. With S it is store_validations
+unfoldable pub phoneAccessChanged : Raised
+phoneAccessChanged = record { access = true; availability = true; readonly = noR; approval = noP; challenge = noC }
+
+-- notify_can_read_only_changed: R A, with the read-only state after the change
+unfoldable pub readOnlyChanged : Bool → Raised
+readOnlyChanged v = record { access = true; availability = false; readonly = sentR v; approval = noP; challenge = noC }
+
+-- a changed approval: P R A, and V if it empties the store
+unfoldable pub approvalChanged : Car → Bool → Bool → Raised
+approvalChanged car v empties = record { access = true; availability = empties; readonly = sentR v; approval = sentP car; challenge = noC }
+
+-- a challenge that started or ended, and after_change: C A V
+unfoldable pub challengeChanged : Challenge → Raised
+challengeChanged c = record { access = true; availability = true; readonly = noR; approval = noP; challenge = sentC c }
+
+-- ---- what a call sends
+
+-- every channel: S beside what the operation sends
+abbrev pub sending : Raised → ValidationsSignal → Signals
+sending r s = record { access = r .access; availability = r .availability; readonly = r .readonly; approval = r .approval; validations = s; challenge = r .challenge }
 
 -- a call that raises nothing
 unfoldable pub noSignals : Signals
 noSignals = record { access = false; availability = false; readonly = noR; approval = noP; validations = noS; challenge = noC }
 
--- notify_phone_access_changed: A V
-unfoldable pub phoneAccessChanged : Signals
-phoneAccessChanged = record { access = true; availability = true; readonly = noR; approval = noP; validations = noS; challenge = noC }
-
--- notify_can_read_only_changed: R A, with the read-only state after the change
-unfoldable pub readOnlyChanged : Bool → Signals
-readOnlyChanged v = record { access = true; availability = false; readonly = sentR v; approval = noP; validations = noS; challenge = noC }
-
--- a changed approval: P R A
-unfoldable pub approvalChanged : Car → Bool → Signals
-approvalChanged car v = record { access = true; availability = false; readonly = sentR v; approval = sentP car; validations = noS; challenge = noC }
-
--- an approval that cleared the validations of another car: P R A and S V
-unfoldable pub approvalCleared : Car → Bool → Signals
-approvalCleared car v = record { access = true; availability = true; readonly = sentR v; approval = sentP car; validations = sentS noRecord; challenge = noC }
-
--- store_validations: S A V
-unfoldable pub storeValidations : SavedRecord → Signals
-storeValidations r = record { access = true; availability = true; readonly = noR; approval = noP; validations = sentS r; challenge = noC }
-
--- a challenge that started or ended, and after_change: C A V
-unfoldable pub challengeChanged : Challenge → Signals
-challengeChanged c = record { access = true; availability = true; readonly = noR; approval = noP; validations = noS; challenge = sentC c }
-
--- a session that succeeded: S C A V
-unfoldable pub validated : SavedRecord → Signals
-validated r = record { access = true; availability = true; readonly = noR; approval = noP; validations = sentS r; challenge = sentC noChallenge }
-
 -- ---- what an operation says
+
+abbrev pub yesNo : Bool → Answer
+yesNo true = Yes
+yesNo false = No
 
 -- nothing changes and nothing is raised, as by a refusal (01, Replies): the core is the one that was lent
 unfoldable pub leave : Core → Answer → Said
-leave c a = record { answer = a; signals = noSignals; shows = Blank; core = c; code = Kept }
+leave c a = record { answer = a; raised = nothingRaised; shows = Blank; core = c; code = Kept }
 
 -- nothing is raised, and the core is left as it is given here, as by a host note
 unfoldable pub quiet : Core → Answer → Said
-quiet c a = record { answer = a; signals = noSignals; shows = Blank; core = c; code = Kept }
+quiet c a = record { answer = a; raised = nothingRaised; shows = Blank; core = c; code = Kept }
 
 -- the digits stay, if there are any
-unfoldable pub reply : Core → Answer → Signals → Said
-reply c a s = record { answer = a; signals = s; shows = Blank; core = c; code = Kept }
+unfoldable pub reply : Core → Answer → Raised → Said
+reply c a s = record { answer = a; raised = s; shows = Blank; core = c; code = Kept }
+
+-- notify_phone_access_changed, with an answer
+unfoldable pub notified : Core → Answer → Said
+notified c a = reply c a phoneAccessChanged
 
 -- end_session: session.code = None
-unfoldable pub finish : Core → Answer → Signals → Said
-finish c a s = record { answer = a; signals = s; shows = Blank; core = c; code = Blank }
+unfoldable pub finish : Core → Answer → Raised → Said
+finish c a s = record { answer = a; raised = s; shows = Blank; core = c; code = Blank }
 
 -- ---- the digits are put in their places
 
@@ -124,26 +129,21 @@ codeAt held drawn Blank = noCode
 codeAt held drawn Kept = held
 codeAt held drawn Fresh = drawn
 
--- the challenge and the gate with their digits
-unfoldable pub fill : List ℕ → List ℕ → Said → Outcome
-fill held drawn o = record {
-  answer = o .answer;
-  signals = record {
-    access = o .signals .access;
-    availability = o .signals .availability;
-    readonly = o .signals .readonly;
-    approval = o .signals .approval;
-    validations = o .signals .validations;
+-- the challenge with its digits
+abbrev pub showing : List ℕ → Raised → Raised
+showing digits r = record {
+  access = r .access;
+  availability = r .availability;
+  readonly = r .readonly;
+  approval = r .approval;
+  challenge = record {
+    sent = r .challenge .sent;
     challenge = record {
-      sent = o .signals .challenge .sent;
-      challenge = record {
-        running = o .signals .challenge .challenge .running;
-        session = o .signals .challenge .challenge .session;
-        method = o .signals .challenge .challenge .method;
-        length = o .signals .challenge .challenge .length;
-        code = codeAt held drawn (o .shows);
-      };
+      running = r .challenge .challenge .running;
+      session = r .challenge .challenge .session;
+      method = r .challenge .challenge .method;
+      length = r .challenge .challenge .length;
+      code = digits;
     };
   };
-  gate = record { core = o .core; code = codeAt held drawn (o .code) };
 }

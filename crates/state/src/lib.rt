@@ -1,5 +1,5 @@
-// The state of the gate, by value: the source's statics as one struct. The digits of the drawn code stand outside `Core`,
-// and no operation on a `Core` is given them: it says by a `Mark` where digits go, and `fill` puts them there.
+// The state of the gate, by value: the source's statics as one struct. The phone lists and the digits of the drawn code stand
+// beside a small `Core`. No operation on a core is given them: it is told verdicts on them, and says by a `Mark` where digits go.
 pub mod parts;
 pub mod replies;
 pub mod running;
@@ -128,20 +128,25 @@ pub struct Probe {
     pub marks: [u32; 4],
 }
 
-// Everything but the digits. `peer` is the connected phone, none exactly if its length is 0.
+// Everything but the lists and the digits. `peer` is the connected phone, none exactly if its length is 0.
 pub struct Core {
     pub settings: Settings,
     pub methods: Methods,
     pub policy: Policy,
-    pub paired: PhoneList,
-    pub validations: Validations,
     pub peer: ShortId,
     pub validation: Validation,
     pub probe: Probe,
 }
 
+// The lists: who is paired, and who is validated.
+pub struct Phones {
+    pub paired: PhoneList,
+    pub store: Validations,
+}
+
 pub struct Gate {
     pub core: Core,
+    pub phones: Phones,
     pub code: [u8; 9],
 }
 
@@ -237,6 +242,15 @@ pub struct Signals {
     pub challenge: ChallengeSignal,
 }
 
+// What an operation sends: every channel but VALIDATIONS_TO_STORE, whose value is the record of the store that the call leaves.
+pub struct Raised {
+    pub access: bool,
+    pub availability: bool,
+    pub readonly: ReadOnlySignal,
+    pub approval: ApprovalSignal,
+    pub challenge: ChallengeSignal,
+}
+
 // Where digits come from: there are none, the gate's, or those that this call drew.
 pub enum Mark {
     Blank,
@@ -244,13 +258,27 @@ pub enum Mark {
     Fresh,
 }
 
-// What an operation on a core says: `shows` marks the digits of the challenge, `code` those of the gate.
+// What an operation on a core says: `shows` marks the digits of the challenge, `code` those of the gate. The lists stay.
 pub struct Said {
     pub answer: Answer,
-    pub signals: Signals,
+    pub raised: Raised,
     pub shows: Mark,
     pub core: Core,
     pub code: Mark,
+}
+
+// What an operation on a session says: the lists stay, or the session's phone is validated for the session's car.
+pub struct Ended {
+    pub said: Said,
+    pub validates: bool,
+}
+
+// What an operation on the lists gives: the core and the digits stay. `stores`: the store's record is sent.
+pub struct Listed {
+    pub answer: Answer,
+    pub raised: Raised,
+    pub stores: bool,
+    pub phones: Phones,
 }
 
 // What a call gives.

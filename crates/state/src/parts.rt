@@ -1,14 +1,13 @@
-// A core with one part changed.
+// A core or a probe with one part changed.
 use crate::Core;
 use crate::Methods;
 use crate::Policy;
 use crate::Probe;
 use crate::Validation;
-use crate::Validations;
-use phones::PhoneList;
+use crate::Window;
 use phones::ShortId;
 ghost use mathlib.Core.Path.{_≡_};
-ghost use Rattle.state.specs.Parts.{withMethods, withPolicy, withPaired, withValidations, withPeer, withValidation, withProbe};
+ghost use Rattle.state.specs.Parts.{withMethods, withPolicy, withPeer, withValidation, withProbe, withWindow};
 
 pub fn with_methods(core: Core, methods: Methods) -> Core
     ensures { λ r. ⌜ r ≡ withMethods core methods ⌝ }
@@ -23,22 +22,6 @@ pub fn with_policy(core: Core, policy: Policy) -> Core
 {
     let mut c = core;
     c.policy = policy;
-    c
-}
-
-pub fn with_paired(core: Core, paired: PhoneList) -> Core
-    ensures { λ r. ⌜ r ≡ withPaired core paired ⌝ }
-{
-    let mut c = core;
-    c.paired = paired;
-    c
-}
-
-pub fn with_validations(core: Core, validations: Validations) -> Core
-    ensures { λ r. ⌜ r ≡ withValidations core validations ⌝ }
-{
-    let mut c = core;
-    c.validations = validations;
     c
 }
 
@@ -64,4 +47,12 @@ pub fn with_probe(core: Core, probe: Probe) -> Core
     let mut c = core;
     c.probe = probe;
     c
+}
+
+pub fn with_window(probe: Probe, window: Window) -> Probe
+    ensures { λ r. ⌜ r ≡ withWindow probe window ⌝ }
+{
+    let mut b = probe;
+    b.window = window;
+    b
 }

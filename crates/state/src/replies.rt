@@ -1,20 +1,19 @@
-// Signals, and what operations and calls give.
+// Signals, and what operations on a core say.
 use crate::Answer;
 use crate::ApprovalSignal;
 use crate::Car;
 use crate::Challenge;
 use crate::ChallengeSignal;
 use crate::Core;
-use crate::Gate;
 use crate::Mark;
-use crate::Outcome;
+use crate::Raised;
 use crate::ReadOnlySignal;
 use crate::Said;
 use crate::Signals;
 use crate::ValidationsSignal;
 use saved_record::SavedRecord;
 ghost use mathlib.Core.Path.{_≡_};
-ghost use Rattle.state.specs.Replies.{noCar, noRecord, noChallenge, noSignals, phoneAccessChanged, readOnlyChanged, approvalChanged, approvalCleared, storeValidations, challengeChanged, codeAt};
+ghost use Rattle.state.specs.Replies.{noCar, noRecord, noChallenge, noS, nothingRaised, phoneAccessChanged, readOnlyChanged, approvalChanged, challengeChanged, noSignals, yesNo, codeAt};
 ghost use Rattle.state.specs.Replies as Replies;
 
 pub fn no_car() -> Car
@@ -47,13 +46,12 @@ pub fn no_challenge() -> Challenge
     }
 }
 
-pub fn no_signals() -> Signals
-    ensures { λ r. ⌜ r ≡ noSignals ⌝ }
+pub fn nothing_raised() -> Raised
+    ensures { λ r. ⌜ r ≡ nothingRaised ⌝ }
 {
     let car = no_car();
-    let stored = no_record();
     let challenge = no_challenge();
-    Signals {
+    Raised {
         access: false,
         availability: false,
         readonly: ReadOnlySignal {
@@ -61,10 +59,6 @@ pub fn no_signals() -> Signals
             value: false,
         },
         approval: ApprovalSignal { sent: false, car },
-        validations: ValidationsSignal {
-            sent: false,
-            stored,
-        },
         challenge: ChallengeSignal {
             sent: false,
             challenge,
@@ -73,61 +67,39 @@ pub fn no_signals() -> Signals
 }
 
 // notify_phone_access_changed.
-pub fn phone_access_changed() -> Signals
+pub fn phone_access_changed() -> Raised
     ensures { λ r. ⌜ r ≡ phoneAccessChanged ⌝ }
 {
-    let mut s = no_signals();
+    let mut s = nothing_raised();
     s.access = true;
     s.availability = true;
     s
 }
 
 // notify_can_read_only_changed.
-pub fn read_only_changed(value: bool) -> Signals
+pub fn read_only_changed(value: bool) -> Raised
     ensures { λ r. ⌜ r ≡ readOnlyChanged value ⌝ }
 {
-    let mut s = no_signals();
+    let mut s = nothing_raised();
     s.access = true;
     let readonly = ReadOnlySignal { sent: true, value };
     s.readonly = readonly;
     s
 }
 
-// An approval that was given or revoked.
-pub fn approval_changed(car: Car, value: bool) -> Signals
-    ensures { λ r. ⌜ r ≡ approvalChanged car value ⌝ }
+// An approval that was given or revoked; `empties`: with it the store.
+pub fn approval_changed(car: Car, value: bool, empties: bool) -> Raised
+    ensures { λ r. ⌜ r ≡ approvalChanged car value empties ⌝ }
 {
     let mut s = read_only_changed(value);
-    let approval = ApprovalSignal { sent: true, car };
-    s.approval = approval;
-    s
-}
-
-// store_validations.
-pub fn store_validations(stored: SavedRecord) -> Signals
-    ensures { λ r. ⌜ r ≡ storeValidations stored ⌝ }
-{
-    let mut s = phone_access_changed();
-    let validations = ValidationsSignal { sent: true, stored };
-    s.validations = validations;
-    s
-}
-
-// An approval that cleared the validations of another car.
-pub fn approval_cleared(car: Car, value: bool) -> Signals
-    ensures { λ r. ⌜ r ≡ approvalCleared car value ⌝ }
-{
-    let stored = no_record();
-    let mut s = store_validations(stored);
-    let readonly = ReadOnlySignal { sent: true, value };
-    s.readonly = readonly;
+    s.availability = empties;
     let approval = ApprovalSignal { sent: true, car };
     s.approval = approval;
     s
 }
 
 // A challenge that started or ended.
-pub fn challenge_changed(challenge: Challenge) -> Signals
+pub fn challenge_changed(challenge: Challenge) -> Raised
     ensures { λ r. ⌜ r ≡ challengeChanged challenge ⌝ }
 {
     let mut s = phone_access_changed();
@@ -139,52 +111,91 @@ pub fn challenge_changed(challenge: Challenge) -> Signals
     s
 }
 
-// A session that succeeded.
-pub fn validated(stored: SavedRecord) -> Signals
-    ensures { λ r. ⌜ r ≡ Replies.validated stored ⌝ }
+// S is not sent.
+pub fn no_stored() -> ValidationsSignal
+    ensures { λ r. ⌜ r ≡ noS ⌝ }
 {
-    let challenge = no_challenge();
-    let mut s = challenge_changed(challenge);
-    let validations = ValidationsSignal { sent: true, stored };
-    s.validations = validations;
-    s
+    let stored = no_record();
+    ValidationsSignal {
+        sent: false,
+        stored,
+    }
+}
+
+// Every channel: S beside what the operation sends.
+pub fn sending(raised: Raised, validations: ValidationsSignal) -> Signals
+    ensures { λ r. ⌜ r ≡ Replies.sending raised validations ⌝ }
+{
+    let readonly = raised.readonly;
+    let approval = raised.approval;
+    let challenge = raised.challenge;
+    Signals {
+        access: raised.access,
+        availability: raised.availability,
+        readonly,
+        approval,
+        validations,
+        challenge,
+    }
+}
+
+pub fn no_signals() -> Signals
+    ensures { λ r. ⌜ r ≡ noSignals ⌝ }
+{
+    let raised = nothing_raised();
+    let validations = no_stored();
+    sending(raised, validations)
+}
+
+pub fn yes_no(b: bool) -> Answer
+    ensures { λ r. ⌜ r ≡ yesNo b ⌝ }
+{
+    if b { Answer::Yes } else { Answer::No }
 }
 
 // Nothing changes, and nothing is raised.
 pub fn leave(core: Core, answer: Answer) -> Said
     ensures { λ r. ⌜ r ≡ Replies.leave core answer ⌝ }
 {
-    let signals = no_signals();
-    reply(core, answer, signals)
+    let raised = nothing_raised();
+    reply(core, answer, raised)
 }
 
 pub fn quiet(core: Core, answer: Answer) -> Said
     ensures { λ r. ⌜ r ≡ Replies.quiet core answer ⌝ }
 {
-    let signals = no_signals();
-    reply(core, answer, signals)
+    let raised = nothing_raised();
+    reply(core, answer, raised)
 }
 
 // The digits stay, if there are any.
-pub fn reply(core: Core, answer: Answer, signals: Signals) -> Said
-    ensures { λ r. ⌜ r ≡ Replies.reply core answer signals ⌝ }
+pub fn reply(core: Core, answer: Answer, raised: Raised) -> Said
+    ensures { λ r. ⌜ r ≡ Replies.reply core answer raised ⌝ }
 {
     Said {
         answer,
-        signals,
+        raised,
         shows: Mark::Blank,
         core,
         code: Mark::Kept,
     }
 }
 
+// An answer with the phone access signals.
+pub fn notified(core: Core, answer: Answer) -> Said
+    ensures { λ r. ⌜ r ≡ Replies.notified core answer ⌝ }
+{
+    let raised = phone_access_changed();
+    reply(core, answer, raised)
+}
+
 // The running session ended: its digits go.
-pub fn finish(core: Core, answer: Answer, signals: Signals) -> Said
-    ensures { λ r. ⌜ r ≡ Replies.finish core answer signals ⌝ }
+pub fn finish(core: Core, answer: Answer, raised: Raised) -> Said
+    ensures { λ r. ⌜ r ≡ Replies.finish core answer raised ⌝ }
 {
     Said {
         answer,
-        signals,
+        raised,
         shows: Mark::Blank,
         core,
         code: Mark::Blank,
@@ -201,25 +212,15 @@ pub fn code_at(held: [u8; 9], drawn: [u8; 9], mark: Mark) -> [u8; 9]
     }
 }
 
-// Puts the digits in their places.
-pub fn fill(held: [u8; 9], drawn: [u8; 9], o: Said) -> Outcome
-    ensures { λ r. ⌜ r ≡ Replies.fill held drawn o ⌝ }
+// The challenge with its digits.
+pub fn showing(digits: [u8; 9], raised: Raised) -> Raised
+    ensures { λ r. ⌜ r ≡ Replies.showing digits raised ⌝ }
 {
-    let shows = o.shows;
-    let shown = code_at(held, drawn, shows);
-    let mut signals = o.signals;
-    let mut signal = signals.challenge;
+    let mut signal = raised.challenge;
     let mut challenge = signal.challenge;
-    challenge.code = shown;
+    challenge.code = digits;
     signal.challenge = challenge;
-    signals.challenge = signal;
-    let core = o.core;
-    let mark = o.code;
-    let code = code_at(held, drawn, mark);
-    let answer = o.answer;
-    Outcome {
-        answer,
-        signals,
-        gate: Gate { core, code },
-    }
+    let mut r = raised;
+    r.challenge = signal;
+    r
 }

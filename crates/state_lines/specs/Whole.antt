@@ -13,6 +13,7 @@ use Rattle.state.specs.declared.Core.{Core}
 use Rattle.state.specs.declared.Gate.{Gate}
 use Rattle.state.specs.declared.Identity.{Identity}
 use Rattle.state.specs.declared.Methods.{Methods}
+use Rattle.state.specs.declared.Phones.{Phones}
 use Rattle.state.specs.declared.Policy.{Policy}
 use Rattle.state.specs.declared.Settings.{Settings}
 use Rattle.state.specs.declared.Validations.{Validations}
@@ -68,14 +69,14 @@ validated v p =
 unfoldable pub peer : ShortId → Page → Page
 peer id p = cond (eqb (id .len) 0) (p ▸ word (ascii " peer=") (ascii "none")) (p ▸ text (ascii " peer=") ▸ bytes (idBytes id))
 
-unfoldable pub pairings : Core → Page → Page
-pairings core p = p ▸ idsFrom 0 (phonesOf (core .paired)) ▸ validated (core .validations) ▸ peer (core .peer)
+unfoldable pub pairings : Phones → Page → Page
+pairings l p = p ▸ idsFrom 0 (phonesOf (l .paired)) ▸ validated (l .store)
 
-unfoldable pub front : Core → Page → Page
-front core p = p ▸ settings (core .settings) ▸ methodsTo (core .methods) 8 ▸ policy (core .policy) ▸ pairings core
+unfoldable pub front : Core → Phones → Page → Page
+front core l p = p ▸ settings (core .settings) ▸ methodsTo (core .methods) 8 ▸ policy (core .policy) ▸ pairings l ▸ peer (core .peer)
 
 unfoldable pub gate : Gate → Page → Page
 gate g p =
-    p ▸ front (g .core) ▸ sessionOrNone g
+    p ▸ front (g .core) (g .phones) ▸ sessionOrNone g
     ▸ item (ascii " cooldown_until=") (g .core .validation .«cooldown_until») ▸ item (ascii " next_session=") (g .core .validation .next)
     ▸ probe (g .core .probe)

@@ -9,6 +9,7 @@ use state::Core;
 use state::Gate;
 use state::Identity;
 use state::Methods;
+use state::Phones;
 use state::Policy;
 use state::Settings;
 use state::Validations;
@@ -143,15 +144,13 @@ fn put_peer(out: &mut [u8], at: usize, id: ShortId) -> usize
     lines::fields::put_field(out, at, &all, Field::Bytes(key::PEER, id.len))
 }
 
-fn put_pairings(out: &mut [u8], at: usize, core: Core) -> usize
-    ensures { λ r. ⌜ page (now (out .exit)) r ≡ pairings core (page (now (out .entry)) at) ⌝ }
+fn put_pairings(out: &mut [u8], at: usize, l: Phones) -> usize
+    ensures { λ r. ⌜ page (now (out .exit)) r ≡ pairings l (page (now (out .entry)) at) ⌝ }
 {
-    let list = core.paired;
+    let list = l.paired;
     let k = lines::parts::put_phones(out, at, list);
-    let v = core.validations;
-    let k = put_validated(out, k, v);
-    let id = core.peer;
-    put_peer(out, k, id)
+    let v = l.store;
+    put_validated(out, k, v)
 }
 
 fn put_policy(out: &mut [u8], at: usize, p: Policy) -> usize
@@ -165,8 +164,8 @@ fn put_policy(out: &mut [u8], at: usize, p: Policy) -> usize
     put_buses(out, k, b)
 }
 
-fn put_front(out: &mut [u8], at: usize, core: Core) -> usize
-    ensures { λ r. ⌜ page (now (out .exit)) r ≡ front core (page (now (out .entry)) at) ⌝ }
+fn put_front(out: &mut [u8], at: usize, core: Core, l: Phones) -> usize
+    ensures { λ r. ⌜ page (now (out .exit)) r ≡ front core l (page (now (out .entry)) at) ⌝ }
 {
     let s = core.settings;
     let k = put_settings(out, at, s);
@@ -174,14 +173,17 @@ fn put_front(out: &mut [u8], at: usize, core: Core) -> usize
     let k = put_method_list(out, k, m);
     let p = core.policy;
     let k = put_policy(out, k, p);
-    put_pairings(out, k, core)
+    let k = put_pairings(out, k, l);
+    let id = core.peer;
+    put_peer(out, k, id)
 }
 
 pub fn put_gate(out: &mut [u8], at: usize, g: Gate) -> usize
     ensures { λ r. ⌜ page (now (out .exit)) r ≡ gate g (page (now (out .entry)) at) ⌝ }
 {
     let core = g.core;
-    let k = put_front(out, at, core);
+    let l = g.phones;
+    let k = put_front(out, at, core, l);
     let k = run_lines::session::put_session_or_none(out, k, g);
     let fields = [
         Field::Number(key::COOLDOWN_UNTIL, core.validation.cooldown_until),

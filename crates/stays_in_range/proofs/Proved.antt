@@ -8,30 +8,25 @@ use borrow.Author.Tests.{ltb-false}
 use lib.Dec.{ltb}
 use lib.ListN.{length, take, length-map}
 use lib.Seq.{length-take-le}
-use Rattle.arrays.specs.Arrays.{padded}
 use Rattle.arrays.proofs.Laws.{padded-take}
 use Rattle.phones.specs.Phones.{idBytes, idOf}
 use Rattle.phones.proofs.Laws.{bytes-of-id}
 use Rattle.phones.proofs.Range.{id-range}
-use Rattle.draw.specs.Draw.{drawn}
-use Rattle.text.specs.Text.{isText, right}
 use Rattle.state.specs.declared.Method.{Method}
 use Rattle.state.specs.declared.Settings.{Settings}
 use Rattle.state.specs.declared.Methods.{Methods}
-use Rattle.state.specs.declared.Core.{Core}
 use Rattle.state.specs.declared.Gate.{Gate}
-use Rattle.state.specs.declared.Answer.the-variants.{Done, BadSettings}
 use Rattle.state.specs.declared.Said.{Said}
 use Rattle.state.specs.Running.{noMethod, cleanMethod}
-use Rattle.state.specs.Replies.{fill}
-use Rattle.range.specs.Range.{within, allOf, methodFits, allFit, methodsIn, methodsFit, settingsFit, sessionFits, windowFits, inRange, served}
-use Rattle.new_gate.specs.New.{newMethods, newCore, leastSettings, madeGate, newGate}
-use Rattle.definition.specs.Gate.{Call, isLent, step, after, afterAll}
-use Rattle.definition.specs.Gate as Gate
+use Rattle.state.specs.View.{view}
+use Rattle.range.specs.Range.{within, allOf, methodFits, allFit, methodsIn, methodsFit, settingsFit, sessionFits, windowFits}
 use Rattle.range.proofs.Laws.{within-is}
-use Rattle.stays_in_range.specs.Stays.{IdsOf32, SizedMethods, AllSized, InRange, NewInRange, StaysInRange, AlwaysInRange}
-use Rattle.stays_in_range.proofs.Parts.{fitting, in-range, empty-range}
-use Rattle.stays_in_range.proofs.Calls.{Fits, fit-start, fit-submit, fit-changed}
+use Rattle.new_gate.specs.New.{newMethods, newCore, leastSettings, Made, madeCore}
+use Rattle.definition.specs.Gate.{Call, Says, saying, ofCore, served, says, left, gives, step, after, afterAll}
+use Rattle.definition.specs.Gate as Gate
+use Rattle.stays_in_range.specs.Stays.{IdsOf32, SizedMethods, Sized, AllSized, InRange, NewInRange, StaysInRange, AlwaysInRange}
+use Rattle.stays_in_range.proofs.Parts.{Fitting, Fits, fits, in-range, Holds, cases}
+use Rattle.stays_in_range.proofs.Calls.{empty-range, fit-listing, SaidFits, fit-start, fit-submit, fit-ended, fit-approve, fit-said}
 
 -- ---- the methods of a new gate
 
@@ -48,77 +43,76 @@ all-clean : (n : ℕ) (ms : List Method) → IdsOf32 ms → allOf methodFits (ta
 unfolding allOf
 all-clean zero ms z h = refl
 all-clean (suc n) [] z h = refl
-all-clean (suc n) (m ∷ ms) z h = go (methodFits m) refl h (λ k. all-clean n ms (z .1) k)
+all-clean (suc n) (m ∷ ms) z h = let p = both (methodFits m) _ h in rw (clean-fits m (z .0) (p .0)) (all-clean n ms (z .1) (p .1))
   where
-    go : (b : Bool) → methodFits m ≡ b → cond b (allOf methodFits (take n ms)) false ≡ true
-        → (allOf methodFits (take n ms) ≡ true → allOf methodFits (take n (map cleanMethod ms)) ≡ true)
-        → cond (methodFits (cleanMethod m)) (allOf methodFits (take n (map cleanMethod ms))) false ≡ true
-    go true e q rest = rw (clean-fits m (z .0) e) (rest q)
-    go false e q rest = absurd (false≢true q)
+    both : (b x : Bool) → cond b x false ≡ true → (b ≡ true) × (x ≡ true)
+    both true x e = (refl, e)
+    both false x e = absurd (false≢true e)
 
 new-methods-fit : (ms : List Method) (count : ℕ) → SizedMethods ms → methodsIn ms count ≡ true → methodsFit (newMethods ms count) ≡ true
 unfolding methodsFit newMethods methodsIn allFit
-new-methods-fit ms count z = go (ltb 8 count) refl
+new-methods-fit ms count z h =
+    let p = unless (ltb 8 count) _ h in
+    let far = z .eight in
+    let few = ltb-false 8 count (p .0) in
+    let used = take count (map cleanMethod ms) in
+    let long : length used ≡ count = length-take-le count (map cleanMethod ms) (rw length-map (omega arith)) in
+    rw (p .0, rw long at (padded-take 8 noMethod used)) (all-clean count ms (z .ids) (p .1))
   where
-    go : (b : Bool) → ltb 8 count ≡ b → cond b false (allOf methodFits (take count ms)) ≡ true
-        → cond b false (allOf methodFits (take count (padded 8 noMethod (take count (map cleanMethod ms))))) ≡ true
-    go true e h = h
-    go false e h =
-        let eight = z .eight in
-        let few = ltb-false 8 count e in
-        let k : length (take count (map cleanMethod ms)) ≡ count = length-take-le count (map cleanMethod ms) (rw length-map (omega arith)) in
-        let same : take count (padded 8 noMethod (take count (map cleanMethod ms))) ≡ take count (map cleanMethod ms) =
-        rw k at (padded-take 8 noMethod (take count (map cleanMethod ms)))
-        in
-        rw same (all-clean count ms (z .ids) h)
+    unless : (b x : Bool) → cond b false x ≡ true → (b ≡ false) × (x ≡ true)
+    unless true x e = absurd (false≢true e)
+    unless false x e = (refl, e)
 
 -- ---- New gate
 
-new-core-fits : (settings : Settings) (m : Methods) → settingsFit settings ≡ true → methodsFit m ≡ true → inRange (newCore settings m) ≡ true
+new-core-fits : (settings : Settings) (m : Methods) → settingsFit settings ≡ true → methodsFit m ≡ true → Fitting (newCore settings m)
 unfolding newCore sessionFits windowFits
-new-core-fits settings m s h =
-    in-range _ (record { settings = s; methods = h; paired = empty-range; validated = empty-range; peer = id-range [] (omega arith); session = refl; window = refl })
+new-core-fits settings m s h = record { settings = s; methods = h; peer = id-range [] (omega arith); session = refl; window = refl }
 
-least-fits : settingsFit leastSettings ≡ true
-unfolding settingsFit within
-least-fits = refl
-
-none-fit : methodsFit (newMethods [] 0) ≡ true
-unfolding methodsFit methodsIn newMethods allFit allOf
-none-fit = refl
+made-fits : (settings : Settings) (methods : List Method) (count : ℕ) → SizedMethods methods → Fitting (madeCore settings methods count .core)
+unfolding madeCore settingsFit within methodsFit methodsIn newMethods allFit allOf
+made-fits settings methods count z =
+    cases (λ (m : Made). Fitting (m .core)) (settingsFit settings && methodsIn methods count) _ _
+    (λ e. let p = and-eq-true-iff (settingsFit settings) _ .0 e in new-core-fits settings (newMethods methods count) (p .0) (new-methods-fit methods count z (p .1)))
+    (λ e. new-core-fits leastSettings (newMethods [] 0) refl refl)
 
 pub new-in-range : NewInRange
-unfolding step newGate
-new-in-range g settings methods count z = go (settingsFit settings && methodsIn methods count) refl
-  where
-    go : (b : Bool) → (settingsFit settings && methodsIn methods count) ≡ b
-        → inRange (cond b (madeGate Done (newCore settings (newMethods methods count))) (madeGate BadSettings (newCore leastSettings (newMethods [] 0))) .gate .core) ≡ true
-    go true e =
-        let p = and-eq-true-iff (settingsFit settings) _ .0 e in
-        new-core-fits settings (newMethods methods count) (p .0) (new-methods-fit methods count z (p .1))
-    go false e = new-core-fits leastSettings (newMethods [] 0) least-fits none-fit
+unfolding step gives left says
+new-in-range g settings methods count z = in-range _ (record { core = made-fits settings methods count z; paired = empty-range; store = empty-range })
 
 -- ---- every call
 
-served-fits : (c : Core) (o : Said) → inRange c ≡ true → Fits o → inRange (served c o .core) ≡ true
-unfolding served
-served-fits c o r f = rw r (in-range (o .core) (f .fits))
+module _ (g : Gate) (r : InRange g) where
+  h : Fits g
+  h = fits g r
+
+  served-in : (s : Says) → Fits (left g s) → InRange (left g (served (view g) s))
+  unfolding served
+  served-in s f = rw r (in-range _ f)
+
+  core-in : (drawn : List ℕ) (o : Said) → Holds SaidFits o → InRange (left g (served (view g) (ofCore (view g) drawn o)))
+  unfolding saying left view
+  core-in drawn o f = served-in _ (search h)
+
+  stays-in : (k : Call) → Sized k → InRange (after g k)
+  unfolding step gives says view left
+  stays-in (Gate.newGateCall settings methods count) z = new-in-range g settings methods count (z .new settings methods count refl)
+  stays-in (Gate.startValidation phone method clock random) z = core-in _ _ (fit-start (g .core) (h .core) phone method clock _ _)
+  stays-in (Gate.submitValidationCode phone typed clock) z = served-in _ (fit-submit g h phone clock _ _ _ .holds)
+  stays-in (Gate.onSession k) z = served-in _ (fit-ended g h _ k .holds)
+  stays-in (Gate.onLists k) z = served-in _ (fit-listing g h k .holds)
+  stays-in Gate.approveCanReadWrite z = served-in _ (fit-approve g h _ .holds)
+  stays-in (Gate.onCore k) z = core-in _ _ (fit-said (view g) (h .core) k z)
+  stays-in (Gate.ask q) z = r
 
 pub stays-in-range : StaysInRange
-unfolding step fill
-stays-in-range g (Gate.newGateCall settings methods count) z r = new-in-range g settings methods count (z .new settings methods count refl)
-stays-in-range g (Gate.startValidation phone method clock random) z r =
-    served-fits (g .core) _ r (fit-start (g .core) (fitting _ r) phone method clock (isLent random) (drawn random (g .core .settings .digits) .ok))
-stays-in-range g (Gate.submitValidationCode phone typed clock) z r =
-    served-fits (g .core) _ r (fit-submit (g .core) (fitting _ r) phone clock (isText typed) (right (g .code) (g .core .settings .digits) typed))
-stays-in-range g (Gate.change k) z r = served-fits (g .core) _ r (fit-changed (g .core) (fitting _ r) k z)
-stays-in-range g (Gate.ask q) z r = r
+stays-in-range g k z r = stays-in g r k z
 
 -- ---- any calls
 
 all-in-range : (ks : List Call) (g : Gate) → AllSized ks → InRange g → InRange (afterAll g ks)
 all-in-range [] g z r = r
-all-in-range (k ∷ ks) g z r = all-in-range ks (after g k) (z .1) (stays-in-range g k (z .0) r)
+all-in-range (k ∷ ks) g z r = all-in-range ks (after g k) (z .1) (stays-in g r k (z .0))
 
 pub always-in-range : AlwaysInRange
 always-in-range g settings methods count ks z zs = all-in-range ks _ zs (new-in-range g settings methods count z)

@@ -10,11 +10,12 @@ use Rattle.frames.specs.declared.ProbeFrame.{ProbeFrame}
 use Rattle.state.specs.declared.Method.{Method}
 use Rattle.state.specs.declared.Settings.{Settings}
 use Rattle.state.specs.declared.Gate.{Gate}
+use Rattle.state.specs.View.{view}
 use Rattle.range.specs.Range.{inRange}
-use Rattle.definition.specs.Gate.{Call, newGateCall, change, openIdentityProbe, after, afterAll}
+use Rattle.definition.specs.Gate.{Call, newGateCall, onCore, openIdentityProbe, after, afterAll}
 
 abbrev pub InRange : Gate → Type 0
-InRange g = inRange (g .core) ≡ true
+InRange g = inRange (view g) ≡ true
 
 -- ---- what the types of the arguments give
 
@@ -31,7 +32,7 @@ pub record SizedMethods (methods : List Method) : Type 0 where
 -- New gate: as above. Open probe: frames is a [ProbeFrame; 4]. Of the other calls nothing is asked
 pub record Sized (k : Call) : Type 0 where
   pub new : (settings : Settings) (methods : List Method) (count : ℕ) → k ≡ newGateCall settings methods count → SizedMethods methods
-  pub probe : (bus : ℕ) (frames : List ProbeFrame) (count clock : ℕ) → k ≡ change (openIdentityProbe bus frames count clock) → length frames ≡ 4
+  pub probe : (bus : ℕ) (frames : List ProbeFrame) (count clock : ℕ) → k ≡ onCore (openIdentityProbe bus frames count clock) → length frames ≡ 4
 
 abbrev pub AllSized : List Call → Type 0
 AllSized [] = Unit {0}

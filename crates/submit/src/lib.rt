@@ -2,6 +2,7 @@
 use session::Lapse;
 use state::Answer;
 use state::Core;
+use state::Ended;
 use state::Kind;
 use state::Said;
 use state::Status;
@@ -37,22 +38,21 @@ fn wrong(core: Core, clock: u64) -> Said
     let s = core.validation.session;
     if 1 < s.tries {
         let t = session::tried_once(s);
-        let c = validation::ends::with_session(core, t);
+        let c = validation::ends::session_is(core, t);
         let answer = wrong_answer(c, clock);
-        return phone_trust::notified(c, answer);
+        return state::replies::notified(c, answer);
     }
     let c = failed_core(core, clock);
     let answer = wrong_answer(c, clock);
-    let none = state::replies::no_challenge();
-    let signals = state::replies::challenge_changed(none);
-    state::replies::finish(c, answer, signals)
+    validation::ends::finished(c, answer)
 }
 
-fn right_code(core: Core, clock: u64) -> Said
-    ensures { λ r. ⌜ r ≡ rightCode core clock ⌝ }
+fn right_code(core: Core, clock: u64, full: bool) -> Ended
+    ensures { λ r. ⌜ r ≡ rightCode core clock full ⌝ }
 {
-    if validation::ends::full_for(core) {
-        return phone_trust::notified(core, Answer::ListFull);
+    if full {
+        let said = state::replies::notified(core, Answer::ListFull);
+        return validation::ends::unvalidated(said);
     }
     let c = validation::ends::succeeded_core(core, clock);
     let s = c.validation.session;
@@ -60,49 +60,60 @@ fn right_code(core: Core, clock: u64) -> Said
     validation::ends::succeed(c, Answer::Session(reply))
 }
 
-fn judge_as(core: Core, clock: u64, right: bool, kind: Kind) -> Said
-    ensures { λ r. ⌜ r ≡ judgeAs core clock right kind ⌝ }
+fn judge_as(core: Core, clock: u64, right: bool, full: bool, kind: Kind) -> Ended
+    ensures { λ r. ⌜ r ≡ judgeAs core clock right full kind ⌝ }
 {
     match kind {
-        Kind::InCarAction => phone_trust::notified(core, Answer::NotCodeEntry),
+        Kind::InCarAction => {
+            let said = state::replies::notified(core, Answer::NotCodeEntry);
+            validation::ends::unvalidated(said)
+        }
         Kind::CodeEntry => {
             if right {
-                return right_code(core, clock);
+                return right_code(core, clock, full);
             }
-            wrong(core, clock)
+            let said = wrong(core, clock);
+            validation::ends::unvalidated(said)
         }
     }
 }
 
 // The tick left the session as it was.
-fn submitted(core: Core, phone: &[u8], clock: u64, right: bool) -> Said
-    ensures { λ r. ⌜ r ≡ Calls.submitted core (now (phone .entry)) clock right ⌝ }
+fn submitted(core: Core, phone: &[u8], clock: u64, right: bool, full: bool) -> Ended
+    ensures { λ r. ⌜ r ≡ Calls.submitted core (now (phone .entry)) clock right full ⌝ }
 {
     let s = core.validation.session;
     if validation::ends::runs_for(s, phone) {
         let methods = core.methods;
         let method = state::running::method_at(methods, s.method);
         let kind = method.kind;
-        return judge_as(core, clock, right, kind);
+        return judge_as(core, clock, right, full, kind);
     }
-    phone_trust::notified(core, Answer::NoSession)
+    let said = state::replies::notified(core, Answer::NoSession);
+    validation::ends::unvalidated(said)
 }
 
-// `text`: the typed bytes are text; `right`: they are the code.
-pub fn submit_validation_code(core: Core, phone: &[u8], clock: u64, text: bool, right: bool) -> Said
-    ensures { λ r. ⌜ r ≡ submit core (now (phone .entry)) clock text right ⌝ }
+// `text`: the typed bytes are text; `right`: they are the code; `full`: this car's list is full without the session's phone.
+pub fn submit_validation_code(
+    core: Core,
+    phone: &[u8],
+    clock: u64,
+    text: bool,
+    right: bool,
+    full: bool,
+) -> Ended
+    ensures { λ r. ⌜ r ≡ submit core (now (phone .entry)) clock text right full ⌝ }
 {
     if text {
         let lapse = session::lapse_of(core, clock);
         return match lapse {
-            Lapse::Stays => submitted(core, phone, clock, right),
-            Lapse::Ends(status) => validation::ends::end_session(
-                core,
-                Answer::NoSession,
-                status,
-                clock,
-            ),
+            Lapse::Stays => submitted(core, phone, clock, right, full),
+            Lapse::Ends(status) => {
+                let said = validation::ends::end_session(core, Answer::NoSession, status, clock);
+                validation::ends::unvalidated(said)
+            }
         };
     }
-    state::replies::leave(core, Answer::NotText)
+    let said = state::replies::leave(core, Answer::NotText);
+    validation::ends::unvalidated(said)
 }

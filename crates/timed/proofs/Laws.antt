@@ -1,12 +1,21 @@
--- Turn by turn.
-use mathlib.Core.Path.{_≡_, sym, ap, ap₂, _∙_}
+-- The gate at first, and turn by turn.
+use mathlib.Core.Path.{_≡_, refl, sym, ap, ap₂, _∙_}
+use mathlib.Core.List.{List}
 use Prim.Native.Nat.{ℕ, _+_}
 use native.Mathlib.Numerals.{add-one}
 use Rattle.state.specs.declared.Gate.{Gate}
+use Rattle.state.specs.declared.Method.{Method}
 use Rattle.state.specs.declared.Outcome.{Outcome}
-use Rattle.definition.specs.Gate.{Given, given}
+use Rattle.state.specs.declared.Settings.{Settings}
+use Rattle.new_gate.specs.New.{newGate}
+use Rattle.definition.specs.Gate.{Given, given, newGateCall, says, left, gives, step}
 use Rattle.timed.specs.declared.held.Run.{Run}
 use Rattle.timed.specs.Rounds.{after, turns, first, sumOf}
+
+-- the gate of a new gate, whatever gate was before it
+pub new-gate-is : (g : Gate) (settings : Settings) (list : List Method) (count : ℕ) → step g (newGateCall settings list count) .gate ≡ newGate settings list count .gate
+unfolding step gives says left newGate
+new-gate-is g settings list count = refl
 
 -- the gate and the sum that a loop holds
 abbrev pub runOf : Gate → ℕ → Run

@@ -16,9 +16,9 @@ use Rattle.state.specs.declared.Policy.{Policy}
 use Rattle.state.specs.declared.Method.{Method}
 use Rattle.state.specs.declared.Settings.{Settings}
 use Rattle.state.specs.declared.Gate.{Gate}
-use Rattle.state.specs.Parts.{withPolicy, withPaired}
+use Rattle.state.specs.Parts.{withPolicy}
 use Rattle.new_gate.specs.New.{newGate}
-use Rattle.definition.specs.Gate.{step, change, restorePhoneValidations}
+use Rattle.definition.specs.Gate.{step, onLists, restorePhoneValidations}
 
 abbrev pub classOf : Bool → TxClass
 classOf command = cond command Command Platform
@@ -44,8 +44,12 @@ methodOf made = record { id = made .id; kind = CodeEntry; «needs_approval» = t
 
 -- a gate with that policy, the validated phones paired
 abbrev pub opened : Gate → List ℕ → Gate
-opened g digest = record { core = withPaired (withPolicy (g .core) (writable digest)) (g .core .validations .phones); code = g .code }
+opened g digest = record {
+  core = withPolicy (g .core) (writable digest);
+  phones = record { paired = g .phones .store .phones; store = g .phones .store };
+  code = g .code;
+}
 
 unfoldable pub ready : List ℕ → List ℕ → List ℕ → Gate
 ready digest bytes method =
-    opened (step (newGate settings (replicate 8 (methodOf (madeId method))) 1 .gate) (change (restorePhoneValidations bytes)) .gate) digest
+    opened (step (newGate settings (replicate 8 (methodOf (madeId method))) 1 .gate) (onLists (restorePhoneValidations bytes)) .gate) digest

@@ -3,20 +3,21 @@ use mathlib.Core.List.{List}
 use Prim.Native.Nat.{ℕ, zero, suc}
 use Rattle.frames.specs.declared.CanFrame.{CanFrame}
 use Rattle.frames.specs.declared.TxClass.{TxClass}
+use Rattle.phones.specs.declared.PhoneList.{PhoneList}
 use Rattle.state.specs.declared.Gate.{Gate}
 use Rattle.state.specs.declared.Outcome.{Outcome}
 use Rattle.answers.specs.Query.{Reply, plain, approval, access, phones, trust, peer, phoneAccess, methods, challenge, saved, encodePhoneValidations}
-use Rattle.definition.specs.Gate.{Given, given, step, startValidation, submitValidationCode, change, ask, allowCanTx, restorePhoneValidations}
+use Rattle.definition.specs.Gate.{Given, given, step, startValidation, submitValidationCode, onLists, onCore, ask, allowCanTx, restorePhoneValidations}
 use Rattle.timed.specs.declared.held.Run.{Run}
 use Rattle.timed.specs.Seen.{add, recordByte, raised, answerSeen}
 use Rattle.timed.specs.Held.{ready}
 
 -- what is answerSeen by a reply: an answer, or a byte of a record
-abbrev pub toldBy : Reply → ℕ → ℕ
+abbrev pub toldBy : Reply PhoneList → ℕ → ℕ
 toldBy (plain a) i = answerSeen a
 toldBy (approval a) i = 0
 toldBy (access a) i = 0
-toldBy (phones a) i = 0
+toldBy (phones a ps) i = 0
 toldBy (trust a) i = 0
 toldBy (peer a) i = 0
 toldBy (phoneAccess a) i = 0
@@ -38,10 +39,10 @@ abbrev pub tried : List ℕ → List ℕ → List ℕ → List ℕ → Run → �
 tried phone method random typed r i = submitted phone typed (started phone method random r i) i
 
 abbrev pub allowed : CanFrame → TxClass → List ℕ → Run → ℕ → Run
-allowed frame class owner r i = after (r .sum) (step (r .gate) (change (allowCanTx (frame .bus) frame class owner i))) i
+allowed frame class owner r i = after (r .sum) (step (r .gate) (onCore (allowCanTx (frame .bus) frame class owner i))) i
 
 abbrev pub restored : List ℕ → Run → ℕ → Run
-restored bytes r i = after (r .sum) (step (r .gate) (change (restorePhoneValidations bytes))) i
+restored bytes r i = after (r .sum) (step (r .gate) (onLists (restorePhoneValidations bytes))) i
 
 -- the same after a query, which raises nothing
 abbrev pub heard : ℕ → Given → ℕ → Run

@@ -9,6 +9,7 @@ use state::Gate;
 use state::Identity;
 use state::Kind;
 use state::Method;
+use state::Phones;
 use state::Policy;
 use state::Settings;
 ghost use mathlib.Core.Path.{_≡_};
@@ -77,13 +78,14 @@ fn policy(digest: [u8; 32]) -> Policy
 fn open(g: Gate, digest: [u8; 32]) -> Gate
     ensures { λ r. ⌜ r ≡ opened g digest ⌝ }
 {
-    let core = g.core;
-    let code = g.code;
-    let list = core.validations.phones;
     let p = policy(digest);
-    let c = state::parts::with_policy(core, p);
-    let d = state::parts::with_paired(c, list);
-    Gate { core: d, code }
+    let c = g.core;
+    let core = state::parts::with_policy(c, p);
+    let store = g.phones.store;
+    let paired = store.phones;
+    let phones = Phones { paired, store };
+    let code = g.code;
+    Gate { core, phones, code }
 }
 
 // The phones of the record are paired and validated; `method` is the id of a code entry method.
@@ -106,9 +108,9 @@ pub fn ready(digest: [u8; 32], bytes: &[u8], method: &[u8]) -> Gate
         bonded: 32,
     };
     let methods = [m; 8];
-    let fresh = gate::new_gate(settings, methods, 1);
+    let fresh = gate_sessions::new_gate(settings, methods, 1);
     let g = fresh.gate;
-    let o = gate::restore_phone_validations(g, bytes);
+    let o = gate_phones::restore_phone_validations(g, bytes);
     let h = o.gate;
     open(h, digest)
 }

@@ -49,7 +49,7 @@ pub extern "C" fn timed_starts(
     let mut sum = 0;
     let mut i = 0;
     while i < n {
-        let o = gate::start_validation(g, phone, method, i, random);
+        let o = gate_sessions::start_validation(g, phone, method, i, random);
         sum = seen::after(sum, o, i);
         let next = o.gate;
         g = next;
@@ -76,10 +76,10 @@ pub extern "C" fn timed_submits(
     let mut sum = 0;
     let mut i = 0;
     while i < n {
-        let o = gate::start_validation(g, phone, method, i, random);
+        let o = gate_sessions::start_validation(g, phone, method, i, random);
         sum = seen::after(sum, o, i);
         let begun = o.gate;
-        let p = gate::submit_validation_code(begun, phone, typed, i);
+        let p = gate_sessions::submit_validation_code(begun, phone, typed, i);
         sum = seen::after(sum, p, i);
         let next = p.gate;
         g = next;
@@ -107,7 +107,7 @@ pub extern "C" fn timed_allows(
     let class = held::class_of(command);
     let mut i = 0;
     while i < n {
-        let o = gate::allow_can_tx(g, frame.bus, frame, class, owner, i);
+        let o = gate_frames::allow_can_tx(g, frame.bus, frame, class, owner, i);
         sum = seen::after(sum, o, i);
         let next = o.gate;
         g = next;
@@ -126,7 +126,7 @@ pub extern "C" fn timed_restores(n: u64, car: &[u8; 32], bytes: &[u8], method: &
     let mut sum = 0;
     let mut i = 0;
     while i < n {
-        let o = gate::restore_phone_validations(g, bytes);
+        let o = gate_phones::restore_phone_validations(g, bytes);
         sum = seen::after(sum, o, i);
         let next = o.gate;
         g = next;

@@ -6,14 +6,12 @@ use Rattle.definition.specs.Gate.{Given, given, step}
 use Rattle.lines.specs.Page.{Page, page, _▸_}
 use Rattle.signal_lines.specs.Signals.{signals}
 use Rattle.state_lines.specs.Whole as Whole
-use Rattle.state.specs.Parts.{withValidation, withProbe}
+use Rattle.state.specs.Parts.{withValidation, withProbe, withNext, withRelocks}
 use Rattle.state.specs.Replies.{noSignals}
 use Rattle.state.specs.declared.Answer.{Answer}
 use Rattle.state.specs.declared.Answer.the-variants.{Done}
 use Rattle.state.specs.declared.Gate.{Gate}
 use Rattle.state.specs.declared.Outcome.{Outcome}
-use Rattle.state.specs.declared.Probe.{Probe as ProbeState}
-use Rattle.state.specs.declared.Validation.{Validation}
 use Rattle.calls.specs.Calls.{Line, call, counters, state, unknown}
 use Rattle.asks.specs.Shown.{shown}
 use Rattle.turns.specs.declared.Played.{Played}
@@ -47,15 +45,10 @@ abbrev pub calm : Gate → Page → Turn
 calm g p = record { gate = g; page = signals noSignals p; called = true }
 
 -- the gate with another number for its next session and another relock count
-abbrev pub nextIs : Validation → ℕ → Validation
-nextIs v n = record { session = v .session; «cooldown_until» = v .«cooldown_until»; next = n }
-
-abbrev pub relocksAre : ProbeState → ℕ → ProbeState
-relocksAre b n = record { window = b .window; attempts = b .attempts; relocks = n; marks = b .marks }
-
 abbrev pub withCounters : Gate → ℕ → ℕ → Gate
 withCounters g next relocks = record {
-  core = withProbe (withValidation (g .core) (nextIs (g .core .validation) next)) (relocksAre (g .core .probe) relocks);
+  core = withProbe (withValidation (g .core) (withNext (g .core .validation) next)) (withRelocks (g .core .probe) relocks);
+  phones = g .phones;
   code = g .code;
 }
 

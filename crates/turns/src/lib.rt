@@ -70,8 +70,13 @@ fn set_counters(g: Gate, next: u32, relocks: u32) -> Gate
     p.relocks = relocks;
     let one = state::parts::with_validation(core, v);
     let both = state::parts::with_probe(one, p);
+    let phones = g.phones;
     let code = g.code;
-    Gate { core: both, code }
+    Gate {
+        core: both,
+        phones,
+        code,
+    }
 }
 
 // No call was made.

@@ -5,14 +5,14 @@ use mathlib.Core.Bool.{Bool, true, false, true≢false}
 use mathlib.Core.List.{List, [], _∷_, map}
 use Prim.Native.Nat.{ℕ}
 use lib.ListN.{length, drop, replicate}
-use Rattle.arrays.specs.Arrays.{padded, put, sameBytes}
-use Rattle.phones.specs.Phones.{allInRange, contains, idBytes, idInRange, idOf, listInRange, listOf, phonesOf, someOf, kept, appended, madeId, tooLong}
+use Rattle.arrays.specs.Arrays.{padded, sameBytes}
+use Rattle.phones.specs.declared.PhoneList.{PhoneList}
+use Rattle.phones.specs.Ids.{contains, someOf}
+use Rattle.phones.specs.Phones.{allInRange, idBytes, idInRange, idOf, listInRange, listOf, phonesOf, tooLong}
 use Rattle.draw.specs.Draw.{digits, drawLimit, drawn, firstBelow, group}
 use Rattle.text.specs.Utf8.{decode, encode, encodeAll}
 use Rattle.text.specs.Text.{isText, right, trim, trimFront, trimmed, white}
 use Rattle.text.specs.Utf8 as Utf8
-use Rattle.phone_fields.specs.PhoneFields.{field, fields}
-use Rattle.saved_record.specs.SavedRecord.{encoded, recordOf}
 use Rattle.state.specs.declared.Kind.the-variants.{CodeEntry}
 use Rattle.state.specs.declared.Status.{Status}
 use Rattle.state.specs.declared.Status.the-variants.{InProgress, Succeeded}
@@ -27,10 +27,10 @@ use Rattle.state.specs.Parts.{withPolicy}
 use Rattle.state.specs.Running as Running
 use Rattle.state.specs.Checks.{checked}
 use Rattle.range.specs.Range as Range
+use Rattle.state.specs.View as View
 use Rattle.state.specs.Replies as Replies
 use Rattle.policy.specs.Policy as Policy
 use Rattle.validations.specs.Store as Store
-use Rattle.phone_trust.specs.Trust as Trust
 use Rattle.session_times.specs.Times as Times
 use Rattle.session.specs.Session as Session
 use Rattle.validation.specs.Calls as Validation
@@ -38,8 +38,9 @@ use Rattle.answers.specs.declared.ChallengeAnswer.{ChallengeAnswer}
 use Rattle.answers.specs.Query as Query
 use Rattle.answers.specs.Query.{Reply, plain}
 use Rattle.new_gate.specs.New as New
-use Rattle.definition.specs.Gate.{Call, newGateCall, startValidation, submitValidationCode, change, ask, Given, step, after}
-use Rattle.two_runs.specs.Demand.{blanked, hideGate, hideChallenge, hideSignals, hideReply, seen, run, codeRuns, Alike, starts, submits, news, changes, asks, TwoRuns, end, next, judgedWrong, begins, Tally, sessions, AlikeGates}
+use Rattle.definition.specs.Gate as Gate
+use Rattle.definition.specs.Gate.{Call, newGateCall, startValidation, submitValidationCode, onSession, onLists, approveCanReadWrite, onCore, ask, Given, after}
+use Rattle.two_runs.specs.Demand.{blanked, hideGate, hideChallenge, hideSignals, hideReply, seen, run, codeRuns, Alike, starts, submits, news, sessionCalls, listCalls, approvals, coreCalls, asks, TwoRuns, end, next, judgedWrong, begins, Tally, sessions, AlikeGates}
 use Rattle.two_runs.proofs.Digits.{same-length, same-past}
 
 -- ---- every run has itself for a partner
@@ -48,7 +49,10 @@ self : (g : Gate) (c : Call) → Alike g g c c
 self g (newGateCall settings methods count) = news settings methods count
 self g (startValidation phone method clock random) = starts phone method clock random random (λ d. (refl, refl))
 self g (submitValidationCode phone typed clock) = submits phone clock typed typed (λ f. refl) (λ x j. refl)
-self g (change k) = changes k
+self g (onSession k) = sessionCalls k
+self g (onLists k) = listCalls k
+self g approveCanReadWrite = approvals
+self g (onCore k) = coreCalls k
 self g (ask q) = asks q
 
 pub mirror : (g : Gate) (cs : List Call) → TwoRuns g g cs cs
@@ -77,6 +81,7 @@ ready = record {
     access = made .policy .access;
     buses = made .policy .buses;
   });
+  phones = record { paired = listOf []; store = record { car = replicate 32 0; phones = listOf [] } };
   code = Replies.noCode;
 }
 
@@ -116,10 +121,10 @@ abbrev shows : Status → ℕ → ℕ → SessionReply
 shows status tries seconds = record { method = 0; kind = CodeEntry; status = status; length = 4; tries = tries; seconds = seconds; cooldown = 0 }
 
 -- both runs answer: it runs; 10 with two tries left; it succeeded
-abbrev pub answers : List Reply
+abbrev pub answers : List (Reply PhoneList)
 answers = plain (Answer.Session (shows InProgress 3 60)) ∷ plain (Answer.WrongCode (shows InProgress 2 59)) ∷ plain (Answer.Session (shows Succeeded 2 0)) ∷ []
 
-abbrev pub answersOf : List Given → List Reply
+abbrev pub answersOf : List Given → List (Reply PhoneList)
 answersOf os = map (λ (o : Given). o .answer) os
 
 -- ---- a run that meets the bound: three wrong codes, the end of the cooldown, and a start
@@ -142,7 +147,7 @@ pub record Examples : Type 0 where
   pub tallied : sessions 3 0 ready three ≡ tallies
 
 pub examples : Examples
-unfolding padded put sameBytes allInRange contains idBytes idInRange idOf listInRange listOf phonesOf someOf kept appended madeId tooLong digits drawLimit drawn firstBelow group decode encode encodeAll Utf8.within isText right trim trimFront trimmed white encoded field fields recordOf Range.within Range.settingsFit Range.allOf Range.printable Range.methodFits Range.allFit Range.methodsIn Range.methodsFit Running.methodAt Running.cleanMethod Running.inProgress Running.codeInProgress Range.triesFit Range.sessionFits Range.windowFits Range.phonesFit Range.inRange Replies.challengeChanged Replies.validated Replies.leave Replies.reply Replies.finish Range.served Replies.fill Policy.fingerprintConfirmed Policy.isIdentified Policy.isReadOnly Store.recordFor Trust.notified Store.isFull Store.validate Times.saturatingAdd Times.secondsTo Session.secondsOf Session.replyOf Session.endedAs Session.triedOnce Session.isOf Session.lostReadWrite Session.noteAt Session.cannotGoOn Session.lapseOf Session.placeFrom Session.placeOf Times.nextNumber checked Validation.endSession Validation.runsFor Validation.startChecks Validation.newSession Validation.challengeFor Validation.begin Validation.startAt Validation.start Validation.succeededCore Validation.succeed Validation.fullFor Validation.failedCore Validation.triedCore Validation.wrong Validation.rightCode Validation.judge Validation.submitted Validation.submit New.newMethods New.newCore step begins judgedWrong blanked hideGate codeRuns
+unfolding padded sameBytes allInRange contains idBytes idInRange idOf listInRange listOf phonesOf someOf tooLong digits drawLimit drawn firstBelow group decode encode encodeAll Utf8.within isText right trim trimFront trimmed white Range.within Range.settingsFit Range.allOf Range.printable Range.methodFits Range.allFit Range.methodsIn Range.methodsFit Running.methodAt Running.cleanMethod Running.inProgress Running.codeInProgress Range.triesFit Range.sessionFits Range.windowFits Range.coreFits Range.inRange View.view Replies.reply Replies.notified Replies.finish Policy.fingerprintConfirmed Policy.isIdentified Store.isFull Times.saturatingAdd Times.secondsTo Session.secondsOf Session.replyOf Session.endedAs Session.triedOnce Session.isOf Session.lostReadWrite Session.noteAt Session.cannotGoOn Session.lapseOf Session.placeFrom Session.placeOf checked Validation.endSession Validation.runsFor Validation.startChecks Validation.newSession Validation.begin Validation.startAt Validation.start Validation.succeededCore Validation.succeed Validation.failedCore Validation.triedCore Validation.wrong Validation.rightCode Validation.judge Validation.submitted Validation.submit New.newMethods New.newCore Gate.saying Gate.served Gate.says Gate.left Gate.gives Gate.step begins judgedWrong blanked hideGate codeRuns
 examples = record {
   two =
       next (starts phone method 1_000 random-1234 random-0007 (λ d. (refl, refl)))
@@ -182,11 +187,11 @@ same-challenge c d e =
     }
 
 -- the only reply that holds digits
-abbrev pub isChallenge : Reply → Bool
+abbrev pub isChallenge : Reply PhoneList → Bool
 isChallenge (plain a) = false
 isChallenge (Query.approval a) = false
 isChallenge (Query.access a) = false
-isChallenge (Query.phones a) = false
+isChallenge (Query.phones a ps) = false
 isChallenge (Query.trust a) = false
 isChallenge (Query.peer a) = false
 isChallenge (Query.phoneAccess a) = false
@@ -195,11 +200,11 @@ isChallenge (Query.challenge a) = true
 isChallenge (Query.saved a) = false
 
 -- any other reply is not hidden, and none is hidden as one of another kind
-any-other : (r : Reply) → (isChallenge r ≡ false → hideReply r ≡ r) × (isChallenge (hideReply r) ≡ isChallenge r)
+any-other : (r : Reply PhoneList) → (isChallenge r ≡ false → hideReply r ≡ r) × (isChallenge (hideReply r) ≡ isChallenge r)
 any-other (plain a) = (λ e. refl, refl)
 any-other (Query.approval a) = (λ e. refl, refl)
 any-other (Query.access a) = (λ e. refl, refl)
-any-other (Query.phones a) = (λ e. refl, refl)
+any-other (Query.phones a ps) = (λ e. refl, refl)
 any-other (Query.trust a) = (λ e. refl, refl)
 any-other (Query.peer a) = (λ e. refl, refl)
 any-other (Query.phoneAccess a) = (λ e. refl, refl)
@@ -219,11 +224,13 @@ pub record OnlyDigits (o p : Given) : Type 0 where
   pub validations : o .signals .validations ≡ p .signals .validations
   pub sent : o .signals .challenge .sent ≡ p .signals .challenge .sent
   pub challenge : SameChallenge (o .signals .challenge .challenge) (p .signals .challenge .challenge)
+  pub lent : o .lent ≡ p .lent
   pub core : o .gate .core ≡ p .gate .core
+  pub phones : o .gate .phones ≡ p .gate .phones
   pub long : length (o .gate .code) ≡ length (p .gate .code)
   pub past : drop (o .gate .core .settings .digits) (o .gate .code) ≡ drop (o .gate .core .settings .digits) (p .gate .code)
 
-same-answer : (r s : Reply) → hideReply r ≡ hideReply s → isChallenge r ≡ false → r ≡ s
+same-answer : (r s : Reply PhoneList) → hideReply r ≡ hideReply s → isChallenge r ≡ false → r ≡ s
 same-answer r s e k =
     let m : isChallenge s ≡ false = sym (any-other s .1) ∙ sym (ap isChallenge e) ∙ any-other r .1 ∙ k in
     sym (any-other r .0 k) ∙ e ∙ any-other s .0 m
@@ -250,7 +257,9 @@ only-digits o p e =
       validations = λ i. e i .signals .validations;
       sent = λ i. e i .signals .challenge .sent;
       challenge = same-challenge _ _ (λ i. e i .signals .challenge .challenge);
+      lent = λ i. e i .lent;
       core = c;
+      phones = λ i. e i .gate .phones;
       long = same-length n (o .gate .code) (p .gate .code) b;
       past = same-past n (o .gate .code) (p .gate .code) b;
     }

@@ -1,47 +1,38 @@
 -- What an operation may do to a core: its settings stay, digits are marked only where they are hidden, and each code judged wrong
--- costs one of the tries. Every change of the gate is gone through here once.
+-- costs one of the tries.
 use mathlib.Core.Path.{_≡_, refl, sym}
-use mathlib.Core.Bool.{Bool, true, false, cond, _&&_, true≢false}
-use mathlib.Core.List.{List, [], _∷_}
+use mathlib.Core.Bool.{Bool, true, false, cond, _&&_, true≢false, and-false}
 use Prim.Native.Nat.{ℕ, _+_, _≤_, zero-le}
 use native.Mathlib.Omega.{arith}
 use lib.Dec.{ltb}
-use Rattle.phones.specs.Phones.{idInRange}
-use Rattle.frames.specs.declared.CanFrame.{CanFrame}
-use Rattle.frames.specs.declared.TxClass.{TxClass}
-use Rattle.frames.specs.declared.TxClass.the-variants.{Platform, Command}
+use Rattle.phones.specs.Ids.{someOf}
 use Rattle.state.specs.declared.Status.{Status}
 use Rattle.state.specs.declared.Status.the-variants.{Cancelled, TimedOut}
+use Rattle.state.specs.declared.Methods.{Methods}
 use Rattle.state.specs.declared.Session.{Session}
 use Rattle.state.specs.declared.Core.{Core}
 use Rattle.state.specs.declared.Answer.{Answer}
-use Rattle.state.specs.declared.Signals.{Signals}
+use Rattle.state.specs.declared.Answer.the-variants.{No}
+use Rattle.state.specs.declared.Raised.{Raised}
 use Rattle.state.specs.declared.Mark.{Mark}
 use Rattle.state.specs.declared.Mark.the-variants.{Blank, Kept, Fresh}
 use Rattle.state.specs.declared.Said.{Said}
-use Rattle.state.specs.Running.{isCode, isRunning, inProgress, codeInProgress, methodAt}
+use Rattle.state.specs.declared.Ended.{Ended}
+use Rattle.state.specs.Running.{isRunning, inProgress, codeInProgress, methodAt}
+use Rattle.state.specs.Replies.{nothingRaised, phoneAccessChanged, leave, reply, notified, finish}
+use Rattle.state.specs.View.{Lists, View}
 use Rattle.range.proofs.Laws.{within-is}
-use Rattle.range.specs.Range.{within, settingsFit, methodsFit, phonesFit, triesFit, sessionFits, inRange}
-use Rattle.state.specs.Replies.{leave, quiet, reply, finish}
-use Rattle.state.specs.Checks.{Check, checked}
-use Rattle.can_access.specs.Approval as Access
-use Rattle.dev_lock.specs.DevLock as DevLock
-use Rattle.policy_changes.specs.Changes as Changes
-use Rattle.car_identity.specs.CarIdentity as CarIdentity
-use Rattle.can.specs.Can as Can
-use Rattle.pairing.specs.Pairing as Pairing
-use Rattle.validations.specs.Store as Store
-use Rattle.phone_trust.specs.Trust as Trust
-use Rattle.probe_window.specs.declared.Unsent.{Unsent}
-use Rattle.probe_window.specs.declared.Unsent.the-variants.{At, Nothing}
-use Rattle.can_probe.specs.Calls as Probe
-use Rattle.can_tx.specs.Tx as Tx
+use Rattle.range.specs.Range.{coreFits, triesFit, sessionFits, inRange}
+use Rattle.can_access.specs.Approval.{approve}
+use Rattle.session.specs.declared.Lapse.{Lapse}
 use Rattle.session.specs.declared.Lapse.the-variants.{Stays, Ends}
 use Rattle.session.specs.Session.{endedAs, lapseOf, cannotGoOn}
-use Rattle.validation.specs.Calls as Validation
-use Rattle.methods.specs.Notes as Methods
-use Rattle.definition.specs.Gate.{Change, changed}
+use Rattle.validation.specs.Calls.{endSession, tickedAs, tick, ticking, succeed, succeededCore, cancel, isAction, completed, complete}
 use Rattle.definition.specs.Gate as Gate
+use Rattle.definition.specs.Gate.{SessionCall, CoreCall, ended, said}
+use Rattle.footprint.proofs.Keeps.{either, each-check}
+use Rattle.footprint.proofs.Core.{Beside, beside, core-beside}
+use Rattle.footprint.proofs.Sessions.{approve-keeps}
 use Rattle.two_runs.specs.Demand.{codeRuns}
 
 -- ---- where digits may stand
@@ -60,7 +51,7 @@ Marked c c′ Fresh = codeRuns c′ ≡ true
 
 pub record Fit (c : Core) (o : Said) : Type 0 where
   pub settings : o .core .settings ≡ c .settings
-  pub shows : Shown (c .settings .digits) (o .signals .challenge .challenge .length) (o .shows)
+  pub shows : Shown (c .settings .digits) (o .raised .challenge .challenge .length) (o .shows)
   pub code : Marked c (o .core) (o .code)
 
 -- ---- tries
@@ -76,160 +67,100 @@ pub record Turn (c : Core) (wrong : ℕ) (o : Said) : Type 0 where
 
 -- ---- what a gate in range has left
 
-session-fits : (c : Core) → inRange c ≡ true → sessionFits (c .settings) (c .methods) (c .validation .session) ≡ true
-unfolding inRange
-session-fits c = go (settingsFit (c .settings)) (methodsFit (c .methods)) (phonesFit c) (sessionFits (c .settings) (c .methods) (c .validation .session)) _
-  where
-    go : (v w x y z : Bool) → (v && w && x && y && z) ≡ true → y ≡ true
-    go true true true true z e = refl
-    go true true true false z e = e
-    go true true false y z e = absurd (true≢false (sym e))
-    go true false x y z e = absurd (true≢false (sym e))
-    go false w x y z e = absurd (true≢false (sym e))
+and-left : (x y : Bool) → (x && y) ≡ true → x ≡ true
+and-left true y e = refl
+and-left false y e = e
+
+and-right : (x y : Bool) → (x && y) ≡ true → y ≡ true
+and-right true y e = e
+and-right false y e = absurd (true≢false (sym e))
+
+if-so : (b x : Bool) → b ≡ true → cond b x true ≡ true → x ≡ true
+if-so true x t e = e
+if-so false x t e = absurd (true≢false (sym t))
+
+present-now : (s : Session) (m : Methods) → codeInProgress m s ≡ true → s .present ≡ true
+unfolding codeInProgress inProgress
+present-now s m r = search (and-left, and-right)
 
 -- from 1 to the set number of tries, while a CodeEntry session runs
-pub tries-fit : (c : Core) → inRange c ≡ true → codeRuns c ≡ true → (1 ≤ c .validation .session .tries) × (c .validation .session .tries ≤ c .settings .tries)
-unfolding sessionFits triesFit codeRuns codeInProgress inProgress
-tries-fit c f r =
-    within-is 1 (c .settings .tries) (s .tries)
-    (go (s .present) (isRunning (s .status)) (isCode (methodAt (c .methods) (s .method) .kind)) (idInRange (s .phone)) (ltb (s .method) (c .methods .count)) (session-fits c f) r)
-  where
-    s : Session
-    s = c .validation .session
-
-    go : (p q k x y : Bool) → cond p (x && y && cond ((p && q) && k) (within 1 (c .settings .tries) (s .tries)) true) true ≡ true → ((p && q) && k) ≡ true
-        → within 1 (c .settings .tries) (s .tries) ≡ true
-    go true true true true true e r = e
-    go true true true true false e r = absurd (true≢false (sym e))
-    go true true true false y e r = absurd (true≢false (sym e))
-    go true true false x y e r = absurd (true≢false (sym r))
-    go true false k x y e r = absurd (true≢false (sym r))
-    go false q k x y e r = absurd (true≢false (sym r))
+pub tries-fit : (v : View) → inRange v ≡ true → codeRuns (v .core) ≡ true
+    → (1 ≤ v .core .validation .session .tries) × (v .core .validation .session .tries ≤ v .core .settings .tries)
+unfolding inRange coreFits sessionFits triesFit codeRuns
+tries-fit v f r =
+    let c = v .core in
+    let s = c .validation .session in
+    let fits : sessionFits (c .settings) (c .methods) s ≡ true = search (and-left, and-right) in
+    let there = if-so (s .present) _ (present-now s (c .methods) r) fits in
+    let tried : triesFit (c .settings) (c .methods) s ≡ true = search (and-left, and-right) in
+    within-is _ _ _ (if-so (codeInProgress (c .methods) s) _ r tried)
 
 -- ---- an operation that keeps the settings, the methods and the session
 
-pub runs-same : (c c′ : Core) → c′ .methods .list ≡ c .methods .list → c′ .validation .session ≡ c .validation .session → codeRuns c′ ≡ codeRuns c
+pub turn-beside : (c : Core) (o : Said) → Beside c o → Turn c 0 o
 unfolding codeRuns codeInProgress methodAt
-runs-same c c′ l s = rw (l, s)
+turn-beside c o b =
+    let r : codeRuns (o .core) ≡ codeRuns c = rw (b .methods, b .validation) in
+    record {
+      fit = record { settings = b .settings; shows = rw (b .shows) tt; code = rw (b .code) r };
+      paid = rw (r, b .validation) (omega arith);
+    }
 
-none-left : (c c′ : Core) → codeRuns c′ ≡ codeRuns c → c′ .validation .session .tries ≡ c .validation .session .tries → 0 + triesLeft c′ ≤ triesLeft c
-none-left c c′ r t = rw (r, t) (omega arith)
+pub turn-core : (c : Core) (l : Lists) (k : CoreCall) → Turn c 0 (said c l k)
+turn-core c l k = turn-beside c (said c l k) (core-beside c l k)
 
-pub turn-beside : (c c′ : Core) (a : Answer) (s : Signals) → c′ .settings ≡ c .settings → c′ .methods .list ≡ c .methods .list
-    → c′ .validation .session ≡ c .validation .session → Turn c 0 (reply c′ a s)
+pub turn-approve : (c : Core) (other : Bool) → Turn c 0 (approve c other .said)
+unfolding someOf
+turn-approve c other = turn-beside c _ (beside _ c _ (approve-keeps c other) refl refl refl refl)
+
+turn-reply : (c : Core) (a : Answer) (r : Raised) → Turn c 0 (reply c a r)
 unfolding reply
-turn-beside c c′ a s p l e =
-    let r = runs-same c c′ l e in
-    record { fit = record { settings = p; shows = tt; code = r }; paid = none-left c c′ r (λ i. e i .tries) }
-
-turn-quiet : (c c′ : Core) (a : Answer) → c′ .settings ≡ c .settings → c′ .methods .list ≡ c .methods .list
-    → c′ .validation .session ≡ c .validation .session → Turn c 0 (quiet c′ a)
-unfolding quiet reply
-turn-quiet c c′ a p l e = turn-beside c c′ a _ p l e
+turn-reply c a r = turn-beside c _ (record { settings = refl; methods = refl; count = refl; validation = refl; shows = refl; code = refl })
 
 pub turn-leave : (c : Core) (a : Answer) → Turn c 0 (leave c a)
 unfolding leave reply
-turn-leave c a = turn-beside c c a _ refl refl refl
+turn-leave c a = turn-reply c a nothingRaised
 
-pub turn-cond : (c : Core) (w : ℕ) (b : Bool) (o o′ : Said) → Turn c w o → Turn c w o′ → Turn c w (cond b o o′)
-turn-cond c w true o o′ t t′ = t
-turn-cond c w false o o′ t t′ = t′
+pub turn-notified : (c : Core) (a : Answer) → Turn c 0 (notified c a)
+unfolding notified
+turn-notified c a = turn-reply c a phoneAccessChanged
 
 -- ---- an operation that ends the session
 
-ended-stops : (c : Core) → isRunning (c .validation .session .status) ≡ false → codeRuns c ≡ false
-unfolding codeRuns codeInProgress inProgress
-ended-stops c e = go (c .validation .session .present) (isCode (methodAt (c .methods) (c .validation .session .method) .kind)) e
-  where
-    go : (p k : Bool) → isRunning (c .validation .session .status) ≡ false → ((p && isRunning (c .validation .session .status)) && k) ≡ false
-    go true k e = rw e
-    go false k e = refl
+ended-stops : (s : Session) (m : Methods) → isRunning (s .status) ≡ false → codeInProgress m s ≡ false
+unfolding codeInProgress inProgress
+ended-stops s m e = rw (e, and-false)
 
-pub turn-ends : (c c′ : Core) (w : ℕ) (a : Answer) (s : Signals) → c′ .settings ≡ c .settings → isRunning (c′ .validation .session .status) ≡ false
-    → w ≤ triesLeft c → Turn c w (finish c′ a s)
-unfolding finish
-turn-ends c c′ w a s p e h =
-    record { fit = record { settings = p; shows = tt; code = tt }; paid = rw (ended-stops c′ e) (omega arith) }
+pub turn-ends : (c c′ : Core) (w : ℕ) (a : Answer) (r : Raised) → c′ .settings ≡ c .settings → isRunning (c′ .validation .session .status) ≡ false
+    → w ≤ triesLeft c → Turn c w (finish c′ a r)
+unfolding finish codeRuns
+turn-ends c c′ w a r p e h =
+    record { fit = record { settings = p; shows = tt; code = tt }; paid = rw (ended-stops (c′ .validation .session) (c′ .methods) e) (omega arith) }
 
 -- a tick ends a session as Cancelled or TimedOut
-turn-end : (c : Core) (a : Answer) (status : Status) (clock : ℕ) → isRunning status ≡ false → Turn c 0 (Validation.endSession c a status clock)
-unfolding Validation.endSession endedAs
+pub turn-end : (c : Core) (a : Answer) (status : Status) (clock : ℕ) → isRunning status ≡ false → Turn c 0 (endSession c a status clock)
+unfolding endSession endedAs
 turn-end c a status clock e = turn-ends c _ 0 a _ refl e zero-le
 
--- `P` holds of a call that ticks first if it holds where the tick ends the session and where it does not
-pub ticking-as : (P : Said → Type 0) (c : Core) (clock : ℕ) (a : Answer) (o : Said)
-    → ((status : Status) → isRunning status ≡ false → P (Validation.endSession c a status clock)) → P o → P (Validation.ticking c clock a o (lapseOf c clock))
-unfolding lapseOf
-ticking-as P c clock a o ends stays = go (inProgress (c .validation .session)) (cannotGoOn c (c .validation .session)) (ltb clock (c .validation .session .deadline))
-  where
-    go : (x y z : Bool) → P (Validation.ticking c clock a o (cond x (cond y (Ends Cancelled) (cond z Stays (Ends TimedOut))) Stays))
-    go true true z = ends Cancelled refl
-    go true false true = stays
-    go true false false = ends TimedOut refl
-    go false y z = stays
-
-turn-ticking : (c : Core) (clock : ℕ) (a : Answer) (o : Said) → Turn c 0 o → Turn c 0 (Validation.ticking c clock a o (lapseOf c clock))
-turn-ticking c clock a o t = ticking-as (λ o. Turn c 0 o) c clock a o (λ status e. turn-end c a status clock e) t
-
-turn-succeed : (c : Core) (a : Answer) (clock : ℕ) → Turn c 0 (Validation.succeed c a clock)
-unfolding Validation.succeed Validation.succeededCore endedAs
+pub turn-succeed : (c : Core) (a : Answer) (clock : ℕ) → Turn c 0 (succeed c a clock .said)
+unfolding succeed succeededCore endedAs
 turn-succeed c a clock = turn-ends c _ 0 a _ refl refl zero-le
 
--- ---- every call but start, submit, new and the queries
+-- ---- a session's calls
 
-turn-checked : (c : Core) (ks : List Check) (o : Said) → Turn c 0 o → Turn c 0 (checked c ks o)
-unfolding checked
-turn-checked c [] o t = t
-turn-checked c (k ∷ ks) o t = turn-cond c 0 (k .meets) _ _ (turn-leave c _) (turn-checked c ks o t)
+-- `P` holds of what a tick leads to if it holds where the session stays and where the tick ends it
+pub lapse-as : (P : Lapse → Type 0) (c : Core) (clock : ℕ) → P Stays → ((status : Status) → isRunning status ≡ false → P (Ends status)) → P (lapseOf c clock)
+unfolding lapseOf
+lapse-as P c clock stays ends =
+    let s = c .validation .session in
+    either P (inProgress s) _ _ (either P (cannotGoOn c s) _ _ (ends Cancelled refl) (either P (ltb clock (s .deadline)) _ _ stays (ends TimedOut refl))) stays
 
-ruleset turning = (turn-cond, turn-leave, turn-quiet, turn-checked, turn-beside, turn-end, turn-succeed)
-
-turn-passed : (c : Core) (u : Unsent) → Turn c 0 (Tx.passed c u)
-turn-passed c Nothing = search turning
-turn-passed c (At i) = search turning
-
-turn-class : (c : Core) (bus : ℕ) (frame : CanFrame) (owner : List ℕ) (clock : ℕ) (class : TxClass) → Turn c 0 (Tx.allowClass c bus frame owner clock class)
-unfolding Tx.allowPlatform Tx.throughWindow
-turn-class c bus frame owner clock Platform = search (turning, turn-passed)
-turn-class c bus frame owner clock Command = search turning
-
-turn-forgetting : (c c′ : Core) (a : Answer) (id : List ℕ) → c′ .settings ≡ c .settings → c′ .methods .list ≡ c .methods .list
-    → c′ .validation .session ≡ c .validation .session → Turn c 0 (Store.forgetting c′ a id)
-unfolding Store.forgetting Store.stored
-turn-forgetting c c′ a id p l e = search turning
-
-turn-locked : (c : Core) (enabled : Bool) → Turn c 0 (Can.setReadOnly c enabled)
-unfolding Can.setReadOnly Changes.policyChanged
-turn-locked c true = search turning
-turn-locked c false = search turning
-
-pub turn-changed : (c : Core) (k : Change) → Turn c 0 (changed c k)
-unfolding changed Validation.cancel Validation.complete Validation.completed Validation.tick Methods.noteAvailable Methods.noteContinue Pairing.pair Pairing.unpair Pairing.clear Store.forget Store.prune Pairing.setPeer Store.restore Trust.notified Store.stored Access.approve Access.approvedAs Access.revokeApproval Access.restoreApproval DevLock.setDevUnlocked DevLock.declareProduction CarIdentity.confirmPlatform CarIdentity.revokePlatform CarIdentity.confirmFingerprint CarIdentity.notePlatform Can.noteLogging Can.noteFdBus Changes.policyChanged Probe.openProbe Probe.closeProbe Probe.windowChanged Tx.allow Probe.heard
-turn-changed c (Gate.cancelValidation phone clock) = search turning
-turn-changed c (Gate.completeValidationAction session clock) = turn-ticking c clock _ _ (search turning)
-turn-changed c (Gate.tickValidation clock) = turn-ticking c clock _ _ (search turning)
-turn-changed c (Gate.addPairedPhone id) = search turning
-turn-changed c (Gate.removePairedPhone id) = search (turn-cond, turn-forgetting)
-turn-changed c Gate.clearPairedPhones = search turning
-turn-changed c (Gate.forgetPhoneValidation id) = search turn-forgetting
-turn-changed c Gate.prunePhoneValidations = search turning
-turn-changed c (Gate.setBlePeer id) = search turning
-turn-changed c (Gate.restorePhoneValidations bytes) = search turning
-turn-changed c Gate.approveCanReadWrite = search turning
-turn-changed c Gate.revokeCanReadWriteApproval = search turning
-turn-changed c (Gate.restoreCanReadWriteApproval approval) = search turning
-turn-changed c (Gate.setCanDevWriteUnlocked unlocked) = search turning
-turn-changed c Gate.declareProductionBuild = search turning
-turn-changed c Gate.confirmCarIdentity = search turning
-turn-changed c Gate.revokeCarIdentity = search turning
-turn-changed c (Gate.confirmCarFingerprint fingerprint) = search turning
-turn-changed c (Gate.setCanReadOnly enabled) = turn-locked c enabled
-turn-changed c (Gate.openIdentityProbe bus frames count clock) = search turning depth 8
-turn-changed c Gate.closeIdentityProbe = search turning
-turn-changed c (Gate.allowCanTx bus frame class owner clock) = search (turning, turn-class)
-turn-changed c (Gate.heardCanFrame bus clock) = search turning
-turn-changed c (Gate.notePlatformId number) = search turning
-turn-changed c (Gate.noteCanLogging on) = search turning
-turn-changed c (Gate.noteCanFdBus bus on) = search turning
-turn-changed c (Gate.noteMethodAvailable place on) = search turning
-turn-changed c (Gate.noteMethodCanContinue place on) = search turning
+pub turn-session : (c : Core) (full : Bool) (k : SessionCall) → Turn c 0 (ended c full k .said)
+unfolding ended cancel tick complete completed
+turn-session c full (Gate.cancelValidation phone clock) = each-check (λ o. Turn c 0 o) (leave c) _ _ (turn-leave c) (turn-end c _ Cancelled clock refl)
+turn-session c full (Gate.tickValidation clock) = lapse-as (λ l. Turn c 0 (tickedAs c clock l)) c clock (turn-leave c _) (λ status e. turn-end c _ status clock e)
+turn-session c full (Gate.completeValidationAction number clock) =
+    lapse-as (λ l. Turn c 0 (ticking c clock No (completed c number clock full) l .said)) c clock
+    (either (λ (x : Ended). Turn c 0 (x .said)) (isAction c number) _ _
+    (either (λ (x : Ended). Turn c 0 (x .said)) full _ _ (turn-leave c _) (turn-succeed c _ clock)) (turn-leave c _))
+    (λ status e. turn-end c _ status clock e)

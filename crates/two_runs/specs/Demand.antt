@@ -5,6 +5,7 @@ use mathlib.Core.Path.{_≡_}
 use mathlib.Core.Bool.{Bool, true, false, cond, _&&_}
 use mathlib.Core.List.{List, [], _∷_, map}
 use lib.Dec.{eqb}
+use Rattle.phones.specs.declared.PhoneList.{PhoneList}
 use Rattle.state.specs.declared.Core.{Core}
 use Rattle.state.specs.declared.Gate.{Gate}
 use Rattle.state.specs.declared.Challenge.{Challenge}
@@ -12,13 +13,14 @@ use Rattle.state.specs.declared.Signals.{Signals}
 use Rattle.state.specs.declared.Method.{Method}
 use Rattle.state.specs.declared.Settings.{Settings}
 use Rattle.state.specs.Running.{codeInProgress}
+use Rattle.state.specs.View.{view}
 use Rattle.range.specs.Range.{inRange}
 use Rattle.draw.specs.Draw.{drawn}
 use Rattle.text.specs.Text.{isText, right}
 use Rattle.validation.specs.Calls.{draws, tick}
 use Rattle.answers.specs.Query as Query
 use Rattle.answers.specs.Query.{Query, Reply, numberedReply}
-use Rattle.definition.specs.Gate.{Change, Call, newGateCall, startValidation, submitValidationCode, change, ask, Given, isLent, step, after}
+use Rattle.definition.specs.Gate.{SessionCall, ListCall, CoreCall, Call, newGateCall, startValidation, submitValidationCode, onSession, onLists, approveCanReadWrite, onCore, ask, Given, isLent, step, after}
 
 -- ---- what is left out: the digits, and not their number
 
@@ -30,7 +32,7 @@ blanked (suc n) (b ∷ bs) = 0 ∷ blanked n bs
 
 -- the code length stands in the core, and is kept
 unfoldable pub hideGate : Gate → Gate
-hideGate g = record { core = g .core; code = blanked (g .core .settings .digits) (g .code) }
+hideGate g = record { core = g .core; phones = g .phones; code = blanked (g .core .settings .digits) (g .code) }
 
 unfoldable pub hideChallenge : Challenge → Challenge
 hideChallenge c = record { running = c .running; session = c .session; method = c .method; length = c .length; code = blanked (c .length) (c .code) }
@@ -45,11 +47,11 @@ hideSignals s = record {
   challenge = record { sent = s .challenge .sent; challenge = hideChallenge (s .challenge .challenge) };
 }
 
-abbrev pub hideReply : Reply → Reply
+abbrev pub hideReply : Reply PhoneList → Reply PhoneList
 hideReply (Query.plain a) = Query.plain a
 hideReply (Query.approval a) = Query.approval a
 hideReply (Query.access a) = Query.access a
-hideReply (Query.phones a) = Query.phones a
+hideReply (Query.phones a ps) = Query.phones a ps
 hideReply (Query.trust a) = Query.trust a
 hideReply (Query.peer a) = Query.peer a
 hideReply (Query.phoneAccess a) = Query.phoneAccess a
@@ -57,9 +59,9 @@ hideReply (Query.methods a) = Query.methods a
 hideReply (Query.challenge a) = Query.challenge (record { answer = a .answer; challenge = hideChallenge (a .challenge) })
 hideReply (Query.saved a) = Query.saved a
 
--- a call's whole outcome without the digits
+-- a call's whole outcome without the digits; lent memory is compared whole
 unfoldable pub seen : Given → Given
-seen o = record { numbered = o .numbered; answer = hideReply (o .answer); signals = hideSignals (o .signals); gate = hideGate (o .gate) }
+seen o = record { numbered = o .numbered; answer = hideReply (o .answer); signals = hideSignals (o .signals); lent = o .lent; gate = hideGate (o .gate) }
 
 -- ---- runs
 
@@ -74,11 +76,11 @@ codeRuns c = codeInProgress (c .methods) (c .validation .session)
 
 -- a start comes to its draw: 25 does not meet it, its method is CodeEntry and nothing before 7 refuses it
 unfoldable pub comesToDraw : Gate → List ℕ → List ℕ → ℕ → Bool
-comesToDraw g phone method clock = inRange (g .core) && draws (g .core) phone method clock
+comesToDraw g phone method clock = inRange (view g) && draws (g .core) phone method clock
 
 -- a CodeEntry session is InProgress after the tick of a submit
 unfoldable pub judges : Gate → ℕ → Bool
-judges g clock = inRange (g .core) && codeRuns (tick (g .core) clock .core)
+judges g clock = inRange (view g) && codeRuns (tick (g .core) clock .core)
 
 -- whether typed bytes are right, for the run's own code
 abbrev pub isRight : Gate → List ℕ → Bool
@@ -97,11 +99,14 @@ pub data Alike (g h : Gate) : Call → Call → Type 0 where
       → (comesToDraw g phone method clock ≡ true → (isLent random ≡ isLent random′) × (gives g random ≡ gives h random′))
       → Alike g h (startValidation phone method clock random) (startValidation phone method clock random′)
   submits : (phone : List ℕ) (clock : ℕ) (typed typed′ : List ℕ)
-      → (inRange (g .core) ≡ true → isText typed ≡ isText typed′)
+      → (inRange (view g) ≡ true → isText typed ≡ isText typed′)
       → (isText typed ≡ true → judges g clock ≡ true → isRight g typed ≡ isRight h typed′)
       → Alike g h (submitValidationCode phone typed clock) (submitValidationCode phone typed′ clock)
   news : (settings : Settings) (methods : List Method) (count : ℕ) → Alike g h (newGateCall settings methods count) (newGateCall settings methods count)
-  changes : (k : Change) → Alike g h (change k) (change k)
+  sessionCalls : (k : SessionCall) → Alike g h (onSession k) (onSession k)
+  listCalls : (k : ListCall) → Alike g h (onLists k) (onLists k)
+  approvals : Alike g h approveCanReadWrite approveCanReadWrite
+  coreCalls : (k : CoreCall) → Alike g h (onCore k) (onCore k)
   asks : (q : Query) → Alike g h (ask q) (ask q)
 
 -- Two runs of one list of calls from the gates g and h.
@@ -112,23 +117,29 @@ pub data TwoRuns : Gate → Gate → List Call → List Call → Type 0 where
 -- ---- sessions: from a start that is not refused to the next such start; the calls before the first make up one too
 
 -- document 01's number of the answer that a reply is or begins with; 0 for one that is no refusal
-abbrev pub numberOf : Reply → ℕ
+abbrev pub numberOf : Reply PhoneList → ℕ
 numberOf r = numberedReply r .number
 
 -- a code is judged wrong where submit answers 10
-unfoldable pub judgedWrong : Call → Reply → ℕ
+unfoldable pub judgedWrong : Call → Reply PhoneList → ℕ
 judgedWrong (newGateCall settings methods count) a = 0
 judgedWrong (startValidation phone method clock random) a = 0
 judgedWrong (submitValidationCode phone typed clock) a = cond (eqb (numberOf a) 10) 1 0
-judgedWrong (change k) a = 0
+judgedWrong (onSession k) a = 0
+judgedWrong (onLists k) a = 0
+judgedWrong approveCanReadWrite a = 0
+judgedWrong (onCore k) a = 0
 judgedWrong (ask q) a = 0
 
 -- a session begins with a start that is not refused
-unfoldable pub begins : Call → Reply → Bool
+unfoldable pub begins : Call → Reply PhoneList → Bool
 begins (newGateCall settings methods count) a = false
 begins (startValidation phone method clock random) a = eqb (numberOf a) 0
 begins (submitValidationCode phone typed clock) a = false
-begins (change k) a = false
+begins (onSession k) a = false
+begins (onLists k) a = false
+begins approveCanReadWrite a = false
+begins (onCore k) a = false
 begins (ask q) a = false
 
 -- of one session: the tries set when it began, and the codes judged wrong in it
@@ -167,7 +178,7 @@ pub data StayAlike : List Given → List Given → Type 0 where
   over : StayAlike [] []
   place : {o p : Given} {os ps : List Given} → AlikeGates (o .gate) (p .gate) → StayAlike os ps → StayAlike (o ∷ os) (p ∷ ps)
 
--- at every place of the list the whole answer, the signals and the gate left behind are equal but for the digits
+-- at every place of the list the whole answer, the signals, lent memory and the gate left behind are equal but for the digits
 abbrev pub LookAlike : List Given → List Given → Type 0
 LookAlike os ps = map seen os ≡ map seen ps
 

@@ -1,11 +1,12 @@
 -- The calls of a validation session (validation.rs). None is given the digits: start is told whether random bytes were
--- lent and whether the draw gives a code, submit whether the typed bytes are text and right.
-use mathlib.Core.Bool.{Bool, true, cond, not, _&&_}
+-- lent and whether the draw gives a code, submit whether the typed bytes are text and right. None is given the lists: submit and
+-- complete are told whether this car's list is full without the session's phone.
+use mathlib.Core.Bool.{Bool, true, false, cond, not, _&&_}
 use mathlib.Core.List.{List, [], _∷_}
 use Prim.Native.Nat.{ℕ}
 use lib.Dec.{eqb, ltb, leb}
 use lib.ListN.{length, replicate}
-use Rattle.phones.specs.Phones.{idBytes, idOf}
+use Rattle.phones.specs.Phones.{idOf}
 use Rattle.state.specs.declared.Kind.{Kind}
 use Rattle.state.specs.declared.Kind.the-variants.{CodeEntry, InCarAction}
 use Rattle.state.specs.declared.Status.{Status}
@@ -19,13 +20,12 @@ use Rattle.state.specs.declared.Challenge.{Challenge}
 use Rattle.state.specs.declared.Mark.{Mark}
 use Rattle.state.specs.declared.Mark.the-variants.{Blank, Fresh}
 use Rattle.state.specs.declared.Said.{Said}
-use Rattle.state.specs.Parts.{withValidations, withValidation}
+use Rattle.state.specs.declared.Ended.{Ended}
+use Rattle.state.specs.Parts.{withValidation, withSession, withCooldown, withNext}
 use Rattle.state.specs.Running.{isCode, methodAt, inProgress}
-use Rattle.state.specs.Replies.{noChallenge, challengeChanged, validated, leave, finish}
+use Rattle.state.specs.Replies.{noChallenge, challengeChanged, leave, notified, finish}
 use Rattle.state.specs.Checks.{Check, _refuses_, checked, unmet}
 use Rattle.policy.specs.Policy.{fingerprintConfirmed}
-use Rattle.validations.specs.Store.{recordFor, isFull, validate}
-use Rattle.phone_trust.specs.Trust.{notified}
 use Rattle.session.specs.declared.Lapse.{Lapse}
 use Rattle.session.specs.declared.Lapse.the-variants.{Stays, Ends}
 use Rattle.session_times.specs.Times.{saturatingAdd, secondsTo, nextNumber}
@@ -71,10 +71,10 @@ challengeFor c at kind = record {
 unfoldable pub begin : Core → List ℕ → ℕ → ℕ → Mark → Said
 begin c phone at clock mark =
     let s = newSession c phone at clock in
-    let c′ = withValidation c (record { session = s; «cooldown_until» = c .validation .«cooldown_until»; next = nextNumber (c .validation .next) }) in
+    let c′ = withValidation c (withNext (withSession (c .validation) s) (nextNumber (c .validation .next))) in
     record {
       answer = Answer.Session (replyOf c′ s clock);
-      signals = challengeChanged (challengeFor c at (methodAt (c .methods) at .kind));
+      raised = challengeChanged (challengeFor c at (methodAt (c .methods) at .kind));
       shows = mark;
       core = c′;
       code = mark;
@@ -84,14 +84,14 @@ begin c phone at clock mark =
 abbrev pub startAs : Core → List ℕ → ℕ → ℕ → Bool → Bool → Kind → Said
 startAs c phone at clock lent gives InCarAction = begin c phone at clock Blank
 startAs c phone at clock lent gives CodeEntry =
-    checked c
+    checked (leave c)
     ((not lent refuses NoRandomSource) ∷  -- 7
     (not gives refuses RandomSpent) ∷ [])  -- 19
     (begin c phone at clock Fresh)
 
 unfoldable pub startAt : Core → List ℕ → ℕ → ℕ → Bool → Bool → Said
 startAt c phone at clock lent gives =
-    checked c (startChecks c phone at clock) (startAs c phone at clock lent gives (methodAt (c .methods) at .kind))
+    checked (leave c) (startChecks c phone at clock) (startAs c phone at clock lent gives (methodAt (c .methods) at .kind))
 
 -- start_validation
 unfoldable pub start : Core → List ℕ → List ℕ → ℕ → Bool → Bool → Said
@@ -104,40 +104,42 @@ draws c phone method clock =
 
 -- ---- tick
 
-abbrev pub withSession : Core → Session → Core
-withSession c s = withValidation c (record { session = s; «cooldown_until» = c .validation .«cooldown_until»; next = c .validation .next })
+abbrev pub sessionIs : Core → Session → Core
+sessionIs c s = withValidation c (withSession (c .validation) s)
 
 -- after_change: the running session ended
 unfoldable pub endSession : Core → Answer → Status → ℕ → Said
-endSession c a status clock = finish (withSession c (endedAs (c .validation .session) status clock)) a (challengeChanged noChallenge)
+endSession c a status clock = finish (sessionIs c (endedAs (c .validation .session) status clock)) a (challengeChanged noChallenge)
 
--- a call that ticks first: where the tick ends the session it answers a, and else goes on
-abbrev pub ticking : Core → ℕ → Answer → Said → Lapse → Said
-ticking c clock a o Stays = o
-ticking c clock a o (Ends status) = endSession c a status clock
+abbrev pub tickedAs : Core → ℕ → Lapse → Said
+tickedAs c clock Stays = leave c Done
+tickedAs c clock (Ends status) = endSession c Done status clock
 
 -- tick_validation
 unfoldable pub tick : Core → ℕ → Said
-tick c clock = ticking c clock Done (leave c Done) (lapseOf c clock)
+tick c clock = tickedAs c clock (lapseOf c clock)
+
+-- ---- a call by which a session may succeed
+
+-- no phone is validated
+abbrev pub unvalidated : Said → Ended
+unvalidated o = record { said = o; validates = false }
+
+-- a call that ticks first: where the tick ends the session it answers a, and else goes on
+abbrev pub ticking : Core → ℕ → Answer → Ended → Lapse → Ended
+ticking c clock a o Stays = o
+ticking c clock a o (Ends status) = unvalidated (endSession c a status clock)
 
 -- the session runs and is this phone's
 unfoldable pub runsFor : Session → List ℕ → Bool
 runsFor s phone = inProgress s && isOf s phone
 
--- ---- a session succeeds
-
--- succeed and add_phone_validation
+-- succeed, and the session's phone is to be validated for its car
 unfoldable pub succeededCore : Core → ℕ → Core
-succeededCore c clock =
-    let s = c .validation .session in
-    withValidations (withSession c (endedAs s Succeeded clock)) (validate (c .validations) (s .car) (s .phone))
+succeededCore c clock = sessionIs c (endedAs (c .validation .session) Succeeded clock)
 
-unfoldable pub succeed : Core → Answer → ℕ → Said
-succeed c a clock = finish (succeededCore c clock) a (validated (recordFor (succeededCore c clock .validations)))
-
--- this car's list is full without the session's phone
-unfoldable pub fullFor : Core → Bool
-fullFor c = isFull (c .validations) (c .validation .session .car) (idBytes (c .validation .session .phone))
+unfoldable pub succeed : Core → Answer → ℕ → Ended
+succeed c a clock = record { said = finish (succeededCore c clock) a (challengeChanged noChallenge); validates = true }
 
 -- ---- submit
 
@@ -145,14 +147,11 @@ fullFor c = isFull (c .validations) (c .validation .session .car) (idBytes (c .v
 unfoldable pub failedCore : Core → ℕ → Core
 failedCore c clock =
     withValidation c
-    (record {
-      session = endedAs (triedOnce (c .validation .session)) Failed clock;
-      «cooldown_until» = saturatingAdd clock (c .settings .cooldown);
-      next = c .validation .next;
-    })
+    (withCooldown (withSession (c .validation) (endedAs (triedOnce (c .validation .session)) Failed clock))
+    (saturatingAdd clock (c .settings .cooldown)))
 
 unfoldable pub triedCore : Core → Core
-triedCore c = withSession c (triedOnce (c .validation .session))
+triedCore c = sessionIs c (triedOnce (c .validation .session))
 
 abbrev pub sessionAnswer : Core → ℕ → Answer
 sessionAnswer c clock = Answer.Session (replyOf c (c .validation .session) clock)
@@ -166,38 +165,39 @@ wrong c clock =
     (notified (triedCore c) (wrongAnswer (triedCore c) clock))
     (finish (failedCore c clock) (wrongAnswer (failedCore c clock) clock) (challengeChanged noChallenge))
 
-unfoldable pub rightCode : Core → ℕ → Said
-rightCode c clock =
-    cond (fullFor c) (notified c ListFull) (succeed c (sessionAnswer (succeededCore c clock) clock) clock)
+-- `full`: the session's car has no place for its phone (21)
+unfoldable pub rightCode : Core → ℕ → Bool → Ended
+rightCode c clock full =
+    cond full (unvalidated (notified c ListFull)) (succeed c (sessionAnswer (succeededCore c clock) clock) clock)
 
 -- the code is judged
-unfoldable pub judge : Core → ℕ → Bool → Said
-judge c clock right = cond right (rightCode c clock) (wrong c clock)
+unfoldable pub judge : Core → ℕ → Bool → Bool → Ended
+judge c clock right full = cond right (rightCode c clock full) (unvalidated (wrong c clock))
 
-abbrev pub judgeAs : Core → ℕ → Bool → Kind → Said
-judgeAs c clock right InCarAction = notified c NotCodeEntry
-judgeAs c clock right CodeEntry = judge c clock right
+abbrev pub judgeAs : Core → ℕ → Bool → Bool → Kind → Ended
+judgeAs c clock right full InCarAction = unvalidated (notified c NotCodeEntry)
+judgeAs c clock right full CodeEntry = judge c clock right full
 
 -- the tick left the session as it was
-unfoldable pub submitted : Core → List ℕ → ℕ → Bool → Said
-submitted c phone clock right =
+unfoldable pub submitted : Core → List ℕ → ℕ → Bool → Bool → Ended
+submitted c phone clock right full =
     cond (runsFor (c .validation .session) phone)
-    (judgeAs c clock right (methodAt (c .methods) (c .validation .session .method) .kind))
-    (notified c NoSession)
+    (judgeAs c clock right full (methodAt (c .methods) (c .validation .session .method) .kind))
+    (unvalidated (notified c NoSession))
 
 -- submit_validation_code
-unfoldable pub submit : Core → List ℕ → ℕ → Bool → Bool → Said
-submit c phone clock text right =
-    checked c
+unfoldable pub submit : Core → List ℕ → ℕ → Bool → Bool → Bool → Ended
+submit c phone clock text right full =
+    checked (λ (a : Answer). unvalidated (leave c a))
     ((not text refuses NotText) ∷ [])  -- 20
-    (ticking c clock NoSession (submitted c phone clock right) (lapseOf c clock))
+    (ticking c clock NoSession (submitted c phone clock right full) (lapseOf c clock))
 
 -- ---- cancel, complete
 
 -- cancel_validation
 unfoldable pub cancel : Core → List ℕ → ℕ → Said
 cancel c phone clock =
-    checked c
+    checked (leave c)
     ((not (runsFor (c .validation .session) phone) refuses NoSession) ∷ [])  -- 8
     (endSession c Done Cancelled clock)
 
@@ -208,10 +208,10 @@ isAction c number =
     && eqb (c .validation .session .number) number
     && not (isCode (methodAt (c .methods) (c .validation .session .method) .kind))
 
-unfoldable pub completed : Core → ℕ → ℕ → Said
-completed c number clock =
-    cond (isAction c number) (cond (fullFor c) (leave c ListFull) (succeed c Yes clock)) (leave c No)
+unfoldable pub completed : Core → ℕ → ℕ → Bool → Ended
+completed c number clock full =
+    cond (isAction c number) (cond full (unvalidated (leave c ListFull)) (succeed c Yes clock)) (unvalidated (leave c No))
 
 -- complete_validation_action_at
-unfoldable pub complete : Core → ℕ → ℕ → Said
-complete c number clock = ticking c clock No (completed c number clock) (lapseOf c clock)
+unfoldable pub complete : Core → ℕ → ℕ → Bool → Ended
+complete c number clock full = ticking c clock No (completed c number clock full) (lapseOf c clock)

@@ -3,6 +3,7 @@ use crate::ends;
 use session::Lapse;
 use state::Answer;
 use state::Core;
+use state::Ended;
 use state::Said;
 use state::Status;
 ghost use mathlib.Core.Path.{_≡_};
@@ -44,25 +45,31 @@ fn is_action(core: Core, number: u32) -> bool
     false
 }
 
-fn completed(core: Core, number: u32, clock: u64) -> Said
-    ensures { λ r. ⌜ r ≡ Calls.completed core number clock ⌝ }
+fn completed(core: Core, number: u32, clock: u64, full: bool) -> Ended
+    ensures { λ r. ⌜ r ≡ Calls.completed core number clock full ⌝ }
 {
     if is_action(core, number) {
-        if ends::full_for(core) {
-            return state::replies::leave(core, Answer::ListFull);
+        if full {
+            let said = state::replies::leave(core, Answer::ListFull);
+            return ends::unvalidated(said);
         }
         let c = ends::succeeded_core(core, clock);
         return ends::succeed(c, Answer::Yes);
     }
-    state::replies::leave(core, Answer::No)
+    let said = state::replies::leave(core, Answer::No);
+    ends::unvalidated(said)
 }
 
-pub fn complete_validation_action_at(core: Core, number: u32, clock: u64) -> Said
-    ensures { λ r. ⌜ r ≡ Calls.complete core number clock ⌝ }
+// `full`: this car's list is full without the session's phone.
+pub fn complete_validation_action_at(core: Core, number: u32, clock: u64, full: bool) -> Ended
+    ensures { λ r. ⌜ r ≡ Calls.complete core number clock full ⌝ }
 {
     let lapse = session::lapse_of(core, clock);
     match lapse {
-        Lapse::Stays => completed(core, number, clock),
-        Lapse::Ends(status) => ends::end_session(core, Answer::No, status, clock),
+        Lapse::Stays => completed(core, number, clock, full),
+        Lapse::Ends(status) => {
+            let said = ends::end_session(core, Answer::No, status, clock);
+            ends::unvalidated(said)
+        }
     }
 }

@@ -1,20 +1,31 @@
 // How a running session ends.
 use state::Answer;
 use state::Core;
+use state::Ended;
 use state::Said;
 use state::Session;
 use state::Status;
 ghost use mathlib.Core.Path.{_≡_};
-ghost use Rattle.state.specs.Replies.{finish, validated};
-ghost use Rattle.validations.specs.Store.{recordFor};
-ghost use Rattle.validation.specs.Calls.{withSession, endSession, runsFor, succeededCore, fullFor};
+ghost use mathlib.Core.Bool.{true};
+ghost use Rattle.state.specs.Replies.{noChallenge, challengeChanged, finish};
+ghost use Rattle.validation.specs.Calls.{sessionIs, endSession, runsFor, succeededCore};
+ghost use Rattle.validation.specs.Calls as Calls;
 
-pub fn with_session(core: Core, s: Session) -> Core
-    ensures { λ r. ⌜ r ≡ withSession core s ⌝ }
+pub fn session_is(core: Core, s: Session) -> Core
+    ensures { λ r. ⌜ r ≡ sessionIs core s ⌝ }
 {
     let mut v = core.validation;
     v.session = s;
     state::parts::with_validation(core, v)
+}
+
+// The end of a session is raised, and its digits go.
+pub fn finished(core: Core, answer: Answer) -> Said
+    ensures { λ r. ⌜ r ≡ finish core answer (challengeChanged noChallenge) ⌝ }
+{
+    let none = state::replies::no_challenge();
+    let raised = state::replies::challenge_changed(none);
+    state::replies::finish(core, answer, raised)
 }
 
 // after_change: the running session ended.
@@ -23,10 +34,8 @@ pub fn end_session(core: Core, answer: Answer, status: Status, clock: u64) -> Sa
 {
     let s = core.validation.session;
     let e = session::ended_as(s, status, clock);
-    let c = with_session(core, e);
-    let none = state::replies::no_challenge();
-    let signals = state::replies::challenge_changed(none);
-    state::replies::finish(c, answer, signals)
+    let c = session_is(core, e);
+    finished(c, answer)
 }
 
 // The session runs and is this phone's.
@@ -39,36 +48,32 @@ pub fn runs_for(s: Session, phone: &[u8]) -> bool
     false
 }
 
-// succeed and add_phone_validation.
+// The session ended, but for whom it validates.
 pub fn succeeded_core(core: Core, clock: u64) -> Core
     ensures { λ r. ⌜ r ≡ succeededCore core clock ⌝ }
 {
     let s = core.validation.session;
     let e = session::ended_as(s, Status::Succeeded, clock);
-    let c = with_session(core, e);
-    let v = core.validations;
-    let car = s.car;
-    let phone = s.phone;
-    let more = validations::validate(v, car, phone);
-    state::parts::with_validations(c, more)
+    session_is(core, e)
 }
 
-// The session of `after` succeeded: the store and the end of the challenge are raised.
-pub fn succeed(after: Core, answer: Answer) -> Said
-    ensures { λ r. ⌜ r ≡ finish after answer (validated (recordFor (after .validations))) ⌝ }
+// The session of `after` succeeded, and its phone is to be validated for its car.
+pub fn succeed(after: Core, answer: Answer) -> Ended
+    ensures { λ r. ⌜ r ≡ record { said = finish after answer (challengeChanged noChallenge); validates = true } ⌝ }
 {
-    let v = after.validations;
-    let stored = validations::record_for(v);
-    let signals = state::replies::validated(stored);
-    state::replies::finish(after, answer, signals)
+    let said = finished(after, answer);
+    Ended {
+        said,
+        validates: true,
+    }
 }
 
-// This car's list is full without the session's phone.
-pub fn full_for(core: Core) -> bool
-    ensures { λ r. ⌜ r ≡ fullFor core ⌝ }
+// No phone is validated.
+pub fn unvalidated(said: Said) -> Ended
+    ensures { λ r. ⌜ r ≡ Calls.unvalidated said ⌝ }
 {
-    let v = core.validations;
-    let car = core.validation.session.car;
-    let phone = core.validation.session.phone;
-    validations::is_full(v, car, phone)
+    Ended {
+        said,
+        validates: false,
+    }
 }

@@ -1,82 +1,91 @@
 -- The store of validated phones: one car and its list (phone_trust.rs).
-use mathlib.Core.Bool.{Bool, cond, not, _&&_}
+use mathlib.Core.Bool.{Bool, true, false, cond, not, _&&_}
 use mathlib.Core.List.{List, [], _∷_}
 use Prim.Native.Nat.{ℕ}
 use lib.Dec.{eqb, ltb}
 use lib.ListN.{length, replicate}
 use Rattle.arrays.specs.Arrays.{sameBytes}
-use Rattle.phones.specs.declared.ShortId.{ShortId}
-use Rattle.phones.specs.Phones.{idBytes, phonesOf, listOf, contains, removeAll, retainIn, appended}
+use Rattle.phones.specs.Ids.{contains, removeAll, retainIn, Left, stays, becomes, pushed}
 use Rattle.saved_record.specs.declared.SavedRecord.{SavedRecord}
-use Rattle.saved_record.specs.declared.RecordVerdict.{RecordVerdict}
-use Rattle.saved_record.specs.declared.RecordVerdict.the-variants.{Restored, Malformed, TooLarge}
-use Rattle.saved_record.specs.SavedRecord.{recordOf, encoded, decoded, restored}
-use Rattle.state.specs.declared.Validations.{Validations}
-use Rattle.state.specs.declared.Core.{Core}
+use Rattle.saved_record.specs.SavedRecord.{recordOf, encoded, Reading, malformed, tooLarge, ok, decoded}
 use Rattle.state.specs.declared.Answer.{Answer}
-use Rattle.state.specs.declared.Answer.the-variants as Answer
-use Rattle.state.specs.declared.Answer.the-variants.{Done}
-use Rattle.state.specs.declared.Said.{Said}
-use Rattle.state.specs.Parts.{withValidations}
-use Rattle.state.specs.Replies.{phoneAccessChanged, storeValidations, leave, quiet, reply}
+use Rattle.state.specs.declared.Answer.the-variants.{Done, Malformed, TooLarge}
+use Rattle.state.specs.Replies.{nothingRaised, phoneAccessChanged}
+use Rattle.state.specs.View.{Store, Lists, Listing}
 
 -- no car, no phone
-abbrev pub noValidations : Validations
-noValidations = record { car = replicate 32 0; phones = listOf [] }
+abbrev pub noStore : Store
+noStore = record { car = replicate 32 0; phones = [] }
 
 -- encode_phone_validations: the record of a store
-unfoldable pub recordFor : Validations → SavedRecord
-recordFor v = recordOf (encoded (v .car) (phonesOf (v .phones)))
+unfoldable pub recordFor : Store → SavedRecord
+recordFor s = recordOf (encoded (s .car) (s .phones))
 
--- a store of these phones of a car; without a phone there is none
-unfoldable pub storeOf : List ℕ → List (List ℕ) → Validations
-storeOf car ps = cond (eqb (length ps) 0) noValidations (record { car = car; phones = listOf ps })
-
--- store_validations: the changed store is raised
-unfoldable pub stored : Core → Answer → Validations → Said
-stored c a v = reply (withValidations c v) a (storeValidations (recordFor v))
+-- these phones of a car; without a phone there is no car
+unfoldable pub storeOf : List ℕ → List (List ℕ) → Store
+storeOf car ps = cond (eqb (length ps) 0) noStore (record { car = car; phones = ps })
 
 -- ---- the calls on the store
 
--- forget_phone_validation: every equal id goes; nothing is raised if there was none
-unfoldable pub forgetting : Core → Answer → List ℕ → Said
-forgetting c a id =
-    cond (contains id (phonesOf (c .validations .phones)))
-    (stored c a (storeOf (c .validations .car) (removeAll id (phonesOf (c .validations .phones)))))
-    (quiet c a)
+-- store_validations: S A V where the store changes
+abbrev pub storing : Answer → Left (List (List ℕ)) → Left Store → Listing
+storing a paired stays = record { answer = a; raised = nothingRaised; stores = false; paired = paired; store = stays }
+storing a paired (becomes s) = record { answer = a; raised = phoneAccessChanged; stores = true; paired = paired; store = becomes s }
 
-unfoldable pub forget : Core → List ℕ → Said
-forget c id = forgetting c Done id
+-- every equal id goes
+unfoldable pub forgetting : Store → List ℕ → Left Store
+forgetting s id = cond (contains id (s .phones)) (becomes (storeOf (s .car) (removeAll id (s .phones)))) stays
 
--- prune_phone_validations: the ids that are not paired go
-unfoldable pub prune : Core → Said
-prune c =
-    let kept = retainIn (phonesOf (c .paired)) (phonesOf (c .validations .phones)) in
-    cond (eqb (length kept) (length (phonesOf (c .validations .phones))))
-    (leave c Done)
-    (stored c Done (storeOf (c .validations .car) kept))
+-- forget_phone_validation
+unfoldable pub forget : Lists → List ℕ → Listing
+forget l id = storing Done stays (forgetting (l .store) id)
 
--- restore_phone_validations: both refusals empty the store
-abbrev pub restoreAnswer : RecordVerdict → Answer
-restoreAnswer Restored = Done
-restoreAnswer Malformed = Answer.Malformed
-restoreAnswer TooLarge = Answer.TooLarge
+-- the ids that are not paired go
+unfoldable pub pruning : Lists → Left Store
+pruning l =
+    let kept = retainIn (l .paired) (l .store .phones) in
+    cond (eqb (length kept) (length (l .store .phones))) stays (becomes (storeOf (l .store .car) kept))
 
-unfoldable pub restore : Core → List ℕ → Said
-restore c bytes =
-    let d = restored (decoded bytes) in
-    reply (withValidations c (record { car = d .car; phones = d .phones })) (restoreAnswer (d .answer)) phoneAccessChanged
+-- prune_phone_validations
+unfoldable pub prune : Lists → Listing
+prune l = storing Done stays (pruning l)
 
--- ---- for validation.rs
+-- the store is replaced by what a record says: A V
+abbrev pub replaced : Answer → Store → Listing
+replaced a s = record { answer = a; raised = phoneAccessChanged; stores = false; paired = stays; store = becomes s }
+
+-- both refusals empty the store
+abbrev pub restoring : Reading → Listing
+restoring malformed = replaced Malformed noStore  -- 22
+restoring tooLarge = replaced TooLarge noStore  -- 23
+restoring (ok car phones) = replaced Done (record { car = car; phones = phones })
+
+-- restore_phone_validations
+unfoldable pub restore : List ℕ → Listing
+restore bytes = restoring (decoded bytes)
+
+-- ---- for validation.rs and can_access.rs
+
+-- there are validations, and they are of this car
+unfoldable pub isOfCar : Store → List ℕ → Bool
+isOfCar s car = ltb 0 (length (s .phones)) && sameBytes (s .car) car
+
+-- there are validations, and they are of another car
+unfoldable pub isOfOtherCar : Store → List ℕ → Bool
+isOfOtherCar s car = ltb 0 (length (s .phones)) && not (sameBytes (s .car) car)
 
 -- add_phone_validation would find no place: this car's list is full without the phone
-unfoldable pub isFull : Validations → List ℕ → List ℕ → Bool
-isFull v car id =
-    ltb 31 (length (phonesOf (v .phones))) && sameBytes (v .car) car && not (contains id (phonesOf (v .phones)))
+unfoldable pub isFull : Store → List ℕ → List ℕ → Bool
+isFull s car id = ltb 31 (length (s .phones)) && sameBytes (s .car) car && not (contains id (s .phones))
+
+-- phones of the same car
+abbrev pub ofCar : List ℕ → Left (List (List ℕ)) → Left Store
+ofCar car stays = stays
+ofCar car (becomes ps) = becomes (record { car = car; phones = ps })
 
 -- add_phone_validation: a list of another car is replaced
-unfoldable pub validate : Validations → List ℕ → ShortId → Validations
-validate v car p =
-    cond (ltb 0 (length (phonesOf (v .phones))) && sameBytes (v .car) car)
-    (cond (contains (idBytes p) (phonesOf (v .phones))) v (record { car = v .car; phones = appended (v .phones) (idBytes p) }))
-    (record { car = car; phones = listOf (idBytes p ∷ []) })
+unfoldable pub validating : Store → List ℕ → List ℕ → Left Store
+validating s car id =
+    cond (isOfCar s car)
+    (cond (contains id (s .phones)) stays (ofCar (s .car) (pushed id (s .phones))))
+    (becomes (record { car = car; phones = id ∷ [] }))

@@ -1,22 +1,25 @@
 // The store of validated phones: one car and its list (phone_trust.rs).
+use phones::PhoneList;
 use phones::ShortId;
 use saved_record::RecordVerdict;
 use saved_record::SavedRecord;
 use state::Answer;
-use state::Core;
-use state::Said;
+use state::Listed;
+use state::Phones;
 use state::Validations;
 ghost use mathlib.Core.Path.{_≡_};
-ghost use mathlib.Core.Bool.{_&&_};
-ghost use lib.Dec.{ltb};
-ghost use lib.ListN.{length};
-ghost use Rattle.arrays.specs.Arrays.{sameBytes};
-ghost use Rattle.phones.specs.Phones.{idBytes, phonesOf};
-ghost use Rattle.validations.specs.Store.{noValidations, recordFor, restoreAnswer};
+ghost use mathlib.Core.Bool.{true};
+ghost use Rattle.phones.specs.Ids.{stays};
+ghost use Rattle.phones.specs.Phones.{idBytes};
+ghost use Rattle.state.specs.Replies.{phoneAccessChanged};
+ghost use Rattle.state.specs.View.{storeIn, listsIn, validationsOf, laidStore, listedIn};
+ghost use Rattle.validations.specs.Store.{noStore, recordFor, storing, isOfCar, validating};
 ghost use Rattle.validations.specs.Store as Store;
+ghost use Rattle.validations.specs.Laid.{StoreOf, restoreAnswer};
 
+// No car, no phone.
 pub fn no_validations() -> Validations
-    ensures { λ r. ⌜ r ≡ noValidations ⌝ }
+    ensures { λ r. ⌜ r ≡ validationsOf noStore ⌝ }
 {
     let car = [0u8; 32];
     let phones = phones::empty_list();
@@ -24,65 +27,84 @@ pub fn no_validations() -> Validations
 }
 
 pub fn record_for(v: Validations) -> SavedRecord
-    ensures { λ r. ⌜ r ≡ recordFor v ⌝ }
+    ensures { λ r. ⌜ r ≡ recordFor (storeIn v) ⌝ }
 {
     let car = v.car;
     let phones = v.phones;
     saved_record::encode_phone_validations(car, phones)
 }
 
-// store_validations: the changed store is raised.
-pub fn stored(core: Core, answer: Answer, v: Validations) -> Said
-    ensures { λ r. ⌜ r ≡ Store.stored core answer v ⌝ }
+// What is left of a car's list, which is canonical.
+fn store_of(car: [u8; 32], phones: PhoneList) -> Validations
+    ensures { λ r. ⌜ StoreOf car phones r ⌝ }
 {
-    let saved = record_for(v);
-    let signals = state::replies::store_validations(saved);
-    let c = state::parts::with_validations(core, v);
-    state::replies::reply(c, answer, signals)
+    if phones::count(phones) == 0 {
+        return no_validations();
+    }
+    Validations { car, phones }
 }
 
-pub fn forgetting(core: Core, answer: Answer, id: &[u8]) -> Said
-    ensures { λ r. ⌜ r ≡ Store.forgetting core answer (now (id .entry)) ⌝ }
+// store_validations: the store changed.
+fn stored(p: Phones, answer: Answer, store: Validations) -> Listed
+    ensures { λ r. ⌜ r ≡ record { answer = answer; raised = phoneAccessChanged; stores = true; phones = record { paired = p .paired; store = store } } ⌝ }
 {
-    let v = core.validations;
-    let list = v.phones;
+    let raised = state::replies::phone_access_changed();
+    let mut phones = p;
+    phones.store = store;
+    Listed {
+        answer,
+        raised,
+        stores: true,
+        phones,
+    }
+}
+
+// The phone's validation goes, with an answer; the pairings stay.
+pub fn forgetting(p: Phones, answer: Answer, id: &[u8]) -> Listed
+    ensures { λ r. ⌜ r ≡ listedIn p (storing answer stays (Store.forgetting (storeIn (p .store)) (now (id .entry)))) ⌝ }
+{
+    let store = p.store;
+    let list = store.phones;
     if phones::contains(list, id) {
         let rest = phones::remove_all(list, id);
-        if phones::count(rest) == 0 {
-            let none = no_validations();
-            return stored(core, answer, none);
-        }
-        let car = v.car;
-        let left = Validations { car, phones: rest };
-        return stored(core, answer, left);
+        let car = store.car;
+        let left = store_of(car, rest);
+        return stored(p, answer, left);
     }
-    state::replies::quiet(core, answer)
+    let raised = state::replies::nothing_raised();
+    Listed {
+        answer,
+        raised,
+        stores: false,
+        phones: p,
+    }
 }
 
-pub fn forget_phone_validation(core: Core, id: &[u8]) -> Said
-    ensures { λ r. ⌜ r ≡ Store.forget core (now (id .entry)) ⌝ }
+pub fn forget_phone_validation(p: Phones, id: &[u8]) -> Listed
+    ensures { λ r. ⌜ r ≡ listedIn p (Store.forget (listsIn p) (now (id .entry))) ⌝ }
 {
-    forgetting(core, Answer::Done, id)
+    forgetting(p, Answer::Done, id)
 }
 
-pub fn prune_phone_validations(core: Core) -> Said
-    ensures { λ r. ⌜ r ≡ Store.prune core ⌝ }
+pub fn prune_phone_validations(p: Phones) -> Listed
+    ensures { λ r. ⌜ r ≡ listedIn p (Store.prune (listsIn p)) ⌝ }
 {
-    let v = core.validations;
-    let list = v.phones;
-    let paired = core.paired;
+    let store = p.store;
+    let list = store.phones;
+    let paired = p.paired;
     let kept = phones::retain_in(list, paired);
-    let n = phones::count(kept);
-    if n == phones::count(list) {
-        return state::replies::leave(core, Answer::Done);
+    if phones::count(kept) == phones::count(list) {
+        let raised = state::replies::nothing_raised();
+        return Listed {
+            answer: Answer::Done,
+            raised,
+            stores: false,
+            phones: p,
+        };
     }
-    if n == 0 {
-        let none = no_validations();
-        return stored(core, Answer::Done, none);
-    }
-    let car = v.car;
-    let left = Validations { car, phones: kept };
-    stored(core, Answer::Done, left)
+    let car = store.car;
+    let left = store_of(car, kept);
+    stored(p, Answer::Done, left)
 }
 
 fn restore_answer(a: RecordVerdict) -> Answer
@@ -95,37 +117,29 @@ fn restore_answer(a: RecordVerdict) -> Answer
     }
 }
 
-pub fn restore_phone_validations(core: Core, bytes: &[u8]) -> Said
-    ensures { λ r. ⌜ r ≡ Store.restore core (now (bytes .entry)) ⌝ }
+pub fn restore_phone_validations(p: Phones, bytes: &[u8]) -> Listed
+    ensures { λ r. ⌜ r ≡ listedIn p (Store.restore (now (bytes .entry))) ⌝ }
 {
     let d = saved_record::decode_phone_validations(bytes);
     let car = d.car;
-    let phones = d.phones;
-    let v = Validations { car, phones };
-    let c = state::parts::with_validations(core, v);
+    let list = d.phones;
+    let store = Validations { car, phones: list };
     let told = d.answer;
     let answer = restore_answer(told);
-    let signals = state::replies::phone_access_changed();
-    state::replies::reply(c, answer, signals)
-}
-
-// This car's list is full without the phone.
-pub fn is_full(v: Validations, car: [u8; 32], p: ShortId) -> bool
-    ensures { λ r. ⌜ r ≡ Store.isFull v car (idBytes p) ⌝ }
-{
-    let list = v.phones;
-    if 31 < phones::count(list) {
-        let held = v.car;
-        if arrays::same_bytes(&held, &car) {
-            return !phones::contains_id(list, p);
-        }
+    let raised = state::replies::phone_access_changed();
+    let mut phones = p;
+    phones.store = store;
+    Listed {
+        answer,
+        raised,
+        stores: false,
+        phones,
     }
-    false
 }
 
 // There are validations, and they are of this car.
-fn of_car(v: Validations, car: [u8; 32]) -> bool
-    ensures { λ r. ⌜ r ≡ (ltb 0 (length (phonesOf (v .phones))) && sameBytes (v .car) car) ⌝ }
+fn is_of_car(v: Validations, car: [u8; 32]) -> bool
+    ensures { λ r. ⌜ r ≡ isOfCar (storeIn v) car ⌝ }
 {
     let list = v.phones;
     if 0 < phones::count(list) {
@@ -135,16 +149,42 @@ fn of_car(v: Validations, car: [u8; 32]) -> bool
     false
 }
 
-// add_phone_validation.
-pub fn validate(v: Validations, car: [u8; 32], p: ShortId) -> Validations
-    ensures { λ r. ⌜ r ≡ Store.validate v car p ⌝ }
+// There are validations, and they are of another car.
+pub fn is_of_other_car(v: Validations, car: [u8; 32]) -> bool
+    ensures { λ r. ⌜ r ≡ Store.isOfOtherCar (storeIn v) car ⌝ }
 {
     let list = v.phones;
-    let of = v.car;
-    if of_car(v, car) {
+    if 0 < phones::count(list) {
+        let of = v.car;
+        return !arrays::same_bytes(&of, &car);
+    }
+    false
+}
+
+// This car's list is full without the phone.
+pub fn is_full(v: Validations, car: [u8; 32], p: ShortId) -> bool
+    ensures { λ r. ⌜ r ≡ Store.isFull (storeIn v) car (idBytes p) ⌝ }
+{
+    let list = v.phones;
+    if 31 < phones::count(list) {
+        let of = v.car;
+        if arrays::same_bytes(&of, &car) {
+            return !phones::contains_id(list, p);
+        }
+    }
+    false
+}
+
+// add_phone_validation.
+pub fn validate(v: Validations, car: [u8; 32], p: ShortId) -> Validations
+    ensures { λ r. ⌜ r ≡ laidStore v (validating (storeIn v) car (idBytes p)) ⌝ }
+{
+    let list = v.phones;
+    if is_of_car(v, car) {
         if phones::contains_id(list, p) {
             return v;
         }
+        let of = v.car;
         let more = phones::append(list, p);
         return Validations {
             car: of,

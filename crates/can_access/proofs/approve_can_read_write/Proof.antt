@@ -9,12 +9,22 @@ is-car-fingerprint-confirmed-requires c κs = tt
 with-access-requires : tie.Need-with-access-requires
 with-access-requires c κs = tt
 
-approved-as-requires : tie.Need-approved-as-requires
-approved-as-requires c κs = tt
+is-can-read-only-requires : tie.Need-is-can-read-only-requires
+is-can-read-only-requires c κs = tt
+
+approval-changed-requires : tie.Need-approval-changed-requires
+approval-changed-requires c κs = tt
+
+with-policy-requires : tie.Need-with-policy-requires
+with-policy-requires c κs = tt
+
+reply-requires : tie.Need-reply-requires
+reply-requires c κs = tt
 
 returns : tie.Need-returns
 unfolding approve checked
-returns c = rw (← c .before .before .before .before .before .is-car-fingerprint-confirmed .ensures, c .before .before .before .before .if1 .taken, ← c .before .with-access .ensures, ← c .approved-as .ensures)
+returns c =
+    rw (c .reply .ensures, c .before .with-policy .ensures, c .before .before .approval-changed .ensures, c .before .before .before .is-can-read-only .ensures, c .before .before .before .before .with-access .ensures, ← c .before .before .before .before .before .before .before .before .is-car-fingerprint-confirmed .ensures, c .before .before .before .before .before .before .before .if1 .taken)
 
 leave-requires : tie.Need-leave-requires
 leave-requires c κs = tt
@@ -29,7 +39,10 @@ approve-can-read-write-spec =
     (tie.spec
     is-car-fingerprint-confirmed-requires
     with-access-requires
-    approved-as-requires
+    is-can-read-only-requires
+    approval-changed-requires
+    with-policy-requires
+    reply-requires
     returns
     leave-requires
     returns-2)

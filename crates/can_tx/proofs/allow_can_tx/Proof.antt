@@ -31,7 +31,8 @@ returns c = rw (c .allow-platform .ensures, ← c .before .before .before .befor
 
 returns-2 : tie.Need-returns-2
 unfolding allow checked
-returns-2 c = rw (c .leave .ensures, c .before .yes-no .ensures, c .before .before .allows-command .ensures, ← c .before .before .before .before .before .before .can-id-in-range .ensures, c .before .before .before .before .before .if1 .taken, c .before .before .before .enum-told2 .given .1)
+returns-2 c =
+    rw (c .leave .ensures, c .before .yes-no .ensures, c .before .before .allows-command .ensures, ← c .before .before .before .before .before .before .before .can-id-in-range .ensures, c .before .before .before .before .before .before .if1 .taken, c .before .before .before .before .enum-told2 .given .1)
 
 leave-requires-2 : tie.Need-leave-requires-2
 leave-requires-2 c κs = tt

@@ -1,17 +1,11 @@
 use Rattle.arrays.specs.Arrays.{padded}
-use Rattle.phones.specs.Phones.{idOf}
 use Rattle.new_gate.specs.New.{newCore}
+use Rattle.phones.specs.Phones.{idOf}
 use Rattle.new_gate.proofs.new_core.Statement.{statement}
 use Rattle.new_gate.proofs.new_core.Tie as tie
 
 new-policy-requires : tie.Need-new-policy-requires
 new-policy-requires c κs = tt
-
-empty-list-requires : tie.Need-empty-list-requires
-empty-list-requires c κs = tt
-
-no-validations-requires : tie.Need-no-validations-requires
-no-validations-requires c κs = tt
 
 no-session-requires : tie.Need-no-session-requires
 no-session-requires c κs = tt
@@ -21,22 +15,8 @@ new-probe-requires c κs = tt
 
 returns : tie.Need-returns
 unfolding newCore idOf padded
-returns c =
-    rw (
-      c .new-probe .ensures,
-      c .before .no-session .ensures,
-      c .before .before .no-validations .ensures,
-      c .before .before .before .empty-list .ensures,
-      c .before .before .before .before .new-policy .ensures,
-    )
+returns c = rw (← c .before .before .new-policy .ensures, ← c .before .no-session .ensures, ← c .new-probe .ensures)
 
 pub new-core-spec : {M : Type 1} → statement M
 new-core-spec =
-    tie.close
-    (tie.spec
-    new-policy-requires
-    empty-list-requires
-    no-validations-requires
-    no-session-requires
-    new-probe-requires
-    returns)
+    tie.close (tie.spec new-policy-requires no-session-requires new-probe-requires returns)

@@ -1,37 +1,42 @@
-use Rattle.pairing.specs.Pairing.{unpair}
+use Rattle.pairing.specs.Pairing.{unpair, unpairing}
+use Rattle.phones.specs.Ids.{removeFirst}
+use Rattle.phones.specs.Phones.{phonesOf}
+use Rattle.state.specs.declared.Answer.the-variants.{Yes}
+use Rattle.state.specs.View.{storeIn}
+use Rattle.validations.specs.Store.{forgetting}
+use Rattle.pairing.proofs.Laws.{paired-first}
 use Rattle.pairing.proofs.remove_paired_phone.Statement.{statement}
 use Rattle.pairing.proofs.remove_paired_phone.Tie as tie
 
-is-paired-requires : tie.Need-is-paired-requires
-is-paired-requires c κs = tt
+contains-requires : tie.Need-contains-requires
+contains-requires c κs = tt
 
 remove-first-requires : tie.Need-remove-first-requires
 remove-first-requires c κs = tt
-
-with-paired-requires : tie.Need-with-paired-requires
-with-paired-requires c κs = tt
 
 forgetting-requires : tie.Need-forgetting-requires
 forgetting-requires c κs = tt
 
 returns : tie.Need-returns
-unfolding unpair
-returns c = rw (c .forgetting .ensures, c .before .with-paired .ensures, c .before .before .remove-first .ensures, ← c .before .before .before .before .before .is-paired .ensures, c .before .before .before .before .if1 .taken)
+unfolding unpair unpairing
+returns c =
+    let a = c .before .before .before .before .before .before .args in
+    rw (c .forgetting .ensures, c .before .remove-first .ensures, ← c .before .before .before .contains .ensures, c .before .before .if1 .taken)
+    (paired-first (a .p) Yes (removeFirst (a .id .now) (phonesOf (a .p .paired))) (forgetting (storeIn (a .p .store)) (a .id .now)))
 
 forgetting-requires-2 : tie.Need-forgetting-requires-2
 forgetting-requires-2 c κs = tt
 
 returns-2 : tie.Need-returns-2
-unfolding unpair
-returns-2 c = rw (c .forgetting2 .ensures, ← c .before .before .is-paired .ensures, c .before .if1 .left)
+unfolding unpair unpairing
+returns-2 c = rw (← c .before .before .contains .ensures, c .before .if1 .left, ← c .forgetting2 .ensures)
 
 pub remove-paired-phone-spec : {M : Type 1} → statement M
 remove-paired-phone-spec =
     tie.close
     (tie.spec
-    is-paired-requires
+    contains-requires
     remove-first-requires
-    with-paired-requires
     forgetting-requires
     returns
     forgetting-requires-2

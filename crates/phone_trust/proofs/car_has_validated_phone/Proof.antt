@@ -10,7 +10,7 @@ any-in-requires c κs = tt
 
 returns : tie.Need-returns
 unfolding carHasValidated
-returns c = rw (c .any-in .ensures, ← c .before .before .before .before .of-this-car .ensures, c .before .before .before .if1 .taken)
+returns c = rw (← c .before .before .before .before .of-this-car .ensures, c .before .before .before .if1 .taken, ← c .any-in .ensures)
 
 returns-2 : tie.Need-returns-2
 unfolding carHasValidated

@@ -1,5 +1,4 @@
 use Rattle.phone_trust.specs.Trust.{isPaired}
-use borrow.Author.Needs.{needs}
 use Rattle.phone_trust.proofs.is_paired.Statement.{statement}
 use Rattle.phone_trust.proofs.is_paired.Tie as tie
 
@@ -8,7 +7,7 @@ contains-requires c κs = tt
 
 returns : tie.Need-returns
 unfolding isPaired
-returns c = search needs
+returns c = rw (← c .contains .ensures)
 
 pub is-paired-spec : {M : Type 1} → statement M
 is-paired-spec = tie.close (tie.spec contains-requires returns)

@@ -18,7 +18,7 @@ contains-requires c κs = tt
 
 returns-2 : tie.Need-returns-2
 unfolding isValidated
-returns-2 c = rw (c .contains .ensures, ← c .before .before .before .before .before .before .of-this-car .ensures, c .before .before .before .before .before .if1 .taken, ne-eqb _ _ (c .before .before .before .before .if2 .left), ← c .before .before .before .is-paired .ensures, c .before .before .if3 .taken)
+returns-2 c = rw (← c .before .before .before .before .before .before .of-this-car .ensures, c .before .before .before .before .before .if1 .taken, ne-eqb _ _ (c .before .before .before .before .if2 .left), ← c .before .before .before .is-paired .ensures, c .before .before .if3 .taken, ← c .contains .ensures)
 
 returns-3 : tie.Need-returns-3
 unfolding isValidated

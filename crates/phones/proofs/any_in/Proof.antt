@@ -6,7 +6,8 @@ use Prim.Native.Nat.{ℕ, _≤_, _-_}
 use native.Mathlib.Omega.{arith}
 use lib.ListN.{length, drop}
 use Rattle.arrays.proofs.Laws.{long-map}
-use Rattle.phones.specs.Phones.{contains, anyIn, phonesOf}
+use Rattle.phones.specs.Ids.{contains, anyIn}
+use Rattle.phones.specs.Phones.{phonesOf}
 use Rattle.phones.proofs.Laws.{phones-length}
 use Rattle.phones.proofs.Search.{look-again, look-found, some-end}
 use Rattle.phones.proofs.any_in.Statement.{statement}

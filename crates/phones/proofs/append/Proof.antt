@@ -6,7 +6,8 @@ use native.Mathlib.Omega.{arith}
 use lib.ListN.{length}
 use Rattle.arrays.proofs.Laws.{long-map}
 use borrow.Author.Tests.{lt-ltb, le-ltb}
-use Rattle.phones.specs.Phones.{appended, phonesOf}
+use Rattle.phones.specs.Ids.{pushed}
+use Rattle.phones.specs.Phones.{phonesOf}
 use Rattle.phones.proofs.Laws.{phones-length}
 use Rattle.phones.proofs.Build.{stored}
 use Rattle.phones.proofs.append.Statement.{statement}
@@ -31,7 +32,7 @@ add-out : tie.Need-add-out
 add-out c = search needs
 
 returns : tie.Need-returns
-unfolding appended
+unfolding pushed
 returns c =
     let l = c .before .before .before .before .args .l in
     let far : length (l .ids) ≡ 32 = search (needs, long-map) in
@@ -40,7 +41,7 @@ returns c =
     rw (lt-ltb _ _ room) (stored (c .before .canonical .result) _ (phonesOf l) _ _ (c .before .canonical .ensures) (c .clean .ensures) n (omega arith))
 
 returns-2 : tie.Need-returns-2
-unfolding appended
+unfolding pushed
 returns-2 c =
     let l = c .before .before .args .l in
     let far : length (l .ids) ≡ 32 = search (needs, long-map) in

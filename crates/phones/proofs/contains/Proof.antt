@@ -7,7 +7,8 @@ use native.Mathlib.Omega.{arith}
 use lib.ListN.{length, drop}
 use Rattle.arrays.proofs.Laws.{long-map}
 use Rattle.arrays.specs.Arrays.{sameBytes}
-use Rattle.phones.specs.Phones.{contains, phonesOf}
+use Rattle.phones.specs.Ids.{contains}
+use Rattle.phones.specs.Phones.{phonesOf}
 use Rattle.phones.proofs.Laws.{phones-length}
 use Rattle.phones.proofs.Search.{look-again, look-found, some-end}
 use Rattle.phones.proofs.contains.Statement.{statement}

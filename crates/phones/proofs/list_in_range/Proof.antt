@@ -8,7 +8,8 @@ use Rattle.arrays.proofs.Laws.{long-map}
 use borrow.Author.Tests.{lt-ltb, le-ltb}
 use lib.Seq.{getD-take}
 use mathlib.Core.Bool.{true, false}
-use Rattle.phones.specs.Phones.{someOf, tooLong, allInRange, listInRange}
+use Rattle.phones.specs.Ids.{someOf}
+use Rattle.phones.specs.Phones.{tooLong, allInRange, listInRange}
 use Rattle.phones.proofs.Laws.{noId}
 use Rattle.phones.proofs.Search.{some-again, some-found, some-end}
 use Rattle.phones.proofs.list_in_range.Statement.{statement}

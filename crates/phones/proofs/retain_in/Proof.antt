@@ -7,7 +7,8 @@ use native.Mathlib.Omega.{arith}
 use lib.ListN.{length, take}
 use lib.Seq.{take-all}
 use Rattle.arrays.proofs.Laws.{long-map}
-use Rattle.phones.specs.Phones.{retainIn, kept, contains, listOf, phonesOf}
+use Rattle.phones.specs.Ids.{retainIn, kept, contains}
+use Rattle.phones.specs.Phones.{listOf, phonesOf}
 use Rattle.phones.proofs.Laws.{phones-length}
 use Rattle.phones.proofs.Build.{made-count, keep-more, keep-less}
 use Rattle.phones.proofs.retain_in.Statement.{statement}

@@ -1,19 +1,14 @@
-use Rattle.answers.specs.Answers as Answers
-use Rattle.answers.specs.Query.{answerTo}
-use Rattle.definition.specs.Gate.{step}
+use Rattle.answers.specs.Answers.{ifInRange}
+use Rattle.state.specs.View.{view}
+use Rattle.answers.specs.Query.{bleMaxBondedPhones, answerTo}
+use Rattle.queries.proofs.Laws.{by-query}
 use Rattle.queries.proofs.ble_max_bonded_phones.Statement.{statement}
 use Rattle.queries.proofs.ble_max_bonded_phones.Tie as tie
 
-in-range-requires : tie.Need-in-range-requires
-in-range-requires c κs = tt
-
-returns : tie.Need-returns
-unfolding step answerTo Answers.ifInRange
-returns c = rw (← c .before .in-range .ensures, c .if1 .taken)
-
-returns-2 : tie.Need-returns-2
-unfolding step answerTo Answers.ifInRange
-returns-2 c = rw (← c .before .in-range .ensures, c .if1 .left)
-
 pub ble-max-bonded-phones-spec : {M : Type 1} → statement M
-ble-max-bonded-phones-spec = tie.close (tie.spec in-range-requires returns returns-2)
+unfolding answerTo view ifInRange
+ble-max-bonded-phones-spec =
+    tie.close
+    (tie.spec (λ c κs. tt)
+    (λ c. let a = c .before .before .before .args in by-query (a .g) bleMaxBondedPhones _ (rw (← c .before .before .in-range .ensures, c .before .if1 .taken)))
+    (λ c. let a = c .before .before .args in by-query (a .g) bleMaxBondedPhones _ (rw (← c .before .in-range .ensures, c .if1 .left))))

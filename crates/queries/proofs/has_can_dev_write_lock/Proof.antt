@@ -1,17 +1,12 @@
-use Rattle.definition.specs.Gate.{step}
-use Rattle.answers.specs.Query.{answerTo}
+use Rattle.state.specs.View.{view}
+use Rattle.answers.specs.Query.{hasCanDevWriteLock, answerTo}
+use Rattle.queries.proofs.Laws.{by-query}
 use Rattle.queries.proofs.has_can_dev_write_lock.Statement.{statement}
 use Rattle.queries.proofs.has_can_dev_write_lock.Tie as tie
 
-has-can-dev-write-lock-requires : tie.Need-has-can-dev-write-lock-requires
-has-can-dev-write-lock-requires c κs = tt
-
-answer-yes-no-requires : tie.Need-answer-yes-no-requires
-answer-yes-no-requires c κs = tt
-
-returns : tie.Need-returns
-unfolding step answerTo
-returns c = rw (c .answer-yes-no .ensures, c .before .has-can-dev-write-lock .ensures)
-
 pub has-can-dev-write-lock-spec : {M : Type 1} → statement M
-has-can-dev-write-lock-spec = tie.close (tie.spec has-can-dev-write-lock-requires answer-yes-no-requires returns)
+unfolding answerTo view
+has-can-dev-write-lock-spec =
+    tie.close
+    (tie.spec (λ c κs. tt) (λ c κs. tt)
+    (λ c. let a = c .before .before .before .before .args in by-query (a .g) hasCanDevWriteLock _ (rw (c .answer-yes-no .ensures, c .before .has-can-dev-write-lock .ensures))))

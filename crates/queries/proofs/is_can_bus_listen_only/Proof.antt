@@ -1,17 +1,12 @@
-use Rattle.definition.specs.Gate.{step}
-use Rattle.answers.specs.Query.{answerTo}
+use Rattle.state.specs.View.{view}
+use Rattle.answers.specs.Query.{isCanBusListenOnly, answerTo}
+use Rattle.queries.proofs.Laws.{by-query}
 use Rattle.queries.proofs.is_can_bus_listen_only.Statement.{statement}
 use Rattle.queries.proofs.is_can_bus_listen_only.Tie as tie
 
-is-can-bus-listen-only-requires : tie.Need-is-can-bus-listen-only-requires
-is-can-bus-listen-only-requires c κs = tt
-
-answer-yes-no-requires : tie.Need-answer-yes-no-requires
-answer-yes-no-requires c κs = tt
-
-returns : tie.Need-returns
-unfolding step answerTo
-returns c = rw (c .answer-yes-no .ensures, c .before .is-can-bus-listen-only .ensures)
-
 pub is-can-bus-listen-only-spec : {M : Type 1} → statement M
-is-can-bus-listen-only-spec = tie.close (tie.spec is-can-bus-listen-only-requires answer-yes-no-requires returns)
+unfolding answerTo view
+is-can-bus-listen-only-spec =
+    tie.close
+    (tie.spec (λ c κs. tt) (λ c κs. tt)
+    (λ c. let a = c .before .before .before .before .before .args in by-query (a .g) (isCanBusListenOnly (a .bus) (a .clock)) _ (rw (c .answer-yes-no .ensures, c .before .is-can-bus-listen-only .ensures))))

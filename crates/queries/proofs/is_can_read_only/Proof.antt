@@ -1,17 +1,12 @@
-use Rattle.definition.specs.Gate.{step}
-use Rattle.answers.specs.Query.{answerTo}
+use Rattle.state.specs.View.{view}
+use Rattle.answers.specs.Query.{isCanReadOnly, answerTo}
+use Rattle.queries.proofs.Laws.{by-query}
 use Rattle.queries.proofs.is_can_read_only.Statement.{statement}
 use Rattle.queries.proofs.is_can_read_only.Tie as tie
 
-is-can-read-only-requires : tie.Need-is-can-read-only-requires
-is-can-read-only-requires c κs = tt
-
-answer-yes-no-requires : tie.Need-answer-yes-no-requires
-answer-yes-no-requires c κs = tt
-
-returns : tie.Need-returns
-unfolding step answerTo
-returns c = rw (c .answer-yes-no .ensures, c .before .is-can-read-only .ensures)
-
 pub is-can-read-only-spec : {M : Type 1} → statement M
-is-can-read-only-spec = tie.close (tie.spec is-can-read-only-requires answer-yes-no-requires returns)
+unfolding answerTo view
+is-can-read-only-spec =
+    tie.close
+    (tie.spec (λ c κs. tt) (λ c κs. tt)
+    (λ c. let a = c .before .before .before .before .args in by-query (a .g) isCanReadOnly _ (rw (c .answer-yes-no .ensures, c .before .is-can-read-only .ensures))))

@@ -1,89 +1,36 @@
--- The tests stand in the definition's order; the first that fails decides.
+use Rattle.state.specs.View.{view}
 use Rattle.range.specs.Range.{inRange}
 use Rattle.range.proofs.in_range.Statement.{statement}
 use Rattle.range.proofs.in_range.Tie as tie
 
-settings-fit-requires : tie.Need-settings-fit-requires
-settings-fit-requires c κs = tt
+core-fits-requires : tie.Need-core-fits-requires
+core-fits-requires c κs = tt
 
-methods-fit-requires : tie.Need-methods-fit-requires
-methods-fit-requires c κs = tt
+list-in-range-requires : tie.Need-list-in-range-requires
+list-in-range-requires c κs = tt
 
-phones-fit-requires : tie.Need-phones-fit-requires
-phones-fit-requires c κs = tt
-
-session-fits-requires : tie.Need-session-fits-requires
-session-fits-requires c κs = tt
-
-window-fits-requires : tie.Need-window-fits-requires
-window-fits-requires c κs = tt
+list-in-range-requires-2 : tie.Need-list-in-range-requires-2
+list-in-range-requires-2 c κs = tt
 
 returns : tie.Need-returns
-unfolding inRange
-returns c =
-    rw (
-      ← c .before .before .before .before .before .before .before .before .before .before .before .before .before .settings-fit .ensures,
-      c .before .before .before .before .before .before .before .before .before .before .before .before .if1 .taken,
-      ← c .before .before .before .before .before .before .before .before .before .before .methods-fit .ensures,
-      c .before .before .before .before .before .before .before .before .before .if2 .taken,
-      ← c .before .before .before .before .before .before .before .before .phones-fit .ensures,
-      c .before .before .before .before .before .before .before .if3 .taken,
-      ← c .before .before .before .before .session-fits .ensures,
-      c .before .before .before .if4 .taken,
-      ← c .window-fits .ensures,
-    )
+unfolding inRange view
+returns c = rw (← c .before .before .before .before .before .before .core-fits .ensures, c .before .before .before .before .before .if1 .taken, ← c .before .before .before .list-in-range .ensures, c .before .before .if2 .taken, ← c .list-in-range2 .ensures)
 
 returns-2 : tie.Need-returns-2
-unfolding inRange
-returns-2 c =
-    rw (
-      ← c .before .before .before .before .before .before .before .before .before .before .settings-fit .ensures,
-      c .before .before .before .before .before .before .before .before .before .if1 .taken,
-      ← c .before .before .before .before .before .before .before .methods-fit .ensures,
-      c .before .before .before .before .before .before .if2 .taken,
-      ← c .before .before .before .before .before .phones-fit .ensures,
-      c .before .before .before .before .if3 .taken,
-      ← c .before .session-fits .ensures,
-      c .if4 .left,
-    )
+unfolding inRange view
+returns-2 c = rw (← c .before .before .before .before .core-fits .ensures, c .before .before .before .if1 .taken, ← c .before .list-in-range .ensures, c .if2 .left)
 
 returns-3 : tie.Need-returns-3
-unfolding inRange
-returns-3 c =
-    rw (
-      ← c .before .before .before .before .before .before .settings-fit .ensures,
-      c .before .before .before .before .before .if1 .taken,
-      ← c .before .before .before .methods-fit .ensures,
-      c .before .before .if2 .taken,
-      ← c .before .phones-fit .ensures,
-      c .if3 .left,
-    )
-
-returns-4 : tie.Need-returns-4
-unfolding inRange
-returns-4 c =
-    rw (
-      ← c .before .before .before .before .settings-fit .ensures,
-      c .before .before .before .if1 .taken,
-      ← c .before .methods-fit .ensures,
-      c .if2 .left,
-    )
-
-returns-5 : tie.Need-returns-5
-unfolding inRange
-returns-5 c = rw (← c .before .settings-fit .ensures, c .if1 .left)
+unfolding inRange view
+returns-3 c = rw (← c .before .core-fits .ensures, c .if1 .left)
 
 pub in-range-spec : {M : Type 1} → statement M
 in-range-spec =
     tie.close
     (tie.spec
-    settings-fit-requires
-    methods-fit-requires
-    phones-fit-requires
-    session-fits-requires
-    window-fits-requires
+    core-fits-requires
+    list-in-range-requires
+    list-in-range-requires-2
     returns
     returns-2
-    returns-3
-    returns-4
-    returns-5)
+    returns-3)

@@ -6,7 +6,7 @@ no-peer-requires : tie.Need-no-peer-requires
 no-peer-requires c κs = tt
 
 returns : tie.Need-returns
-returns c = rw (c .no-peer .ensures, eq-eqb _ _ (c .before .if1 .taken))
+returns c = rw (eq-eqb _ _ (c .before .if1 .taken), ← c .no-peer .ensures)
 
 clean-requires : tie.Need-clean-requires
 clean-requires c κs = tt
@@ -15,7 +15,8 @@ is-validated-requires : tie.Need-is-validated-requires
 is-validated-requires c κs = tt
 
 returns-2 : tie.Need-returns-2
-returns-2 c = rw (c .before .clean .ensures, ne-eqb _ _ (c .before .before .if1 .left), ← c .is-validated .ensures)
+returns-2 c = rw (ne-eqb _ _ (c .before .before .before .if1 .left), ← c .before .before .clean .ensures, ← c .is-validated .ensures)
 
 pub peer-of-spec : {M : Type 1} → statement M
-peer-of-spec = tie.close (tie.spec no-peer-requires returns clean-requires is-validated-requires returns-2)
+peer-of-spec =
+    tie.close (tie.spec no-peer-requires returns clean-requires is-validated-requires returns-2)

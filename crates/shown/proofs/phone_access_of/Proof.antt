@@ -6,7 +6,7 @@ no-access-requires : tie.Need-no-access-requires
 no-access-requires c κs = tt
 
 returns : tie.Need-returns
-returns c = rw (c .no-access .ensures, eq-eqb _ _ (c .before .if1 .taken))
+returns c = rw (eq-eqb _ _ (c .before .if1 .taken), ← c .no-access .ensures)
 
 trust-in-requires : tie.Need-trust-in-requires
 trust-in-requires c κs = tt
@@ -18,7 +18,15 @@ session-of-requires : tie.Need-session-of-requires
 session-of-requires c κs = tt
 
 returns-2 : tie.Need-returns-2
-returns-2 c = rw (c .session-of .ensures, c .before .car-has-validated-phone .ensures, c .before .before .trust-in .ensures, ne-eqb _ _ (c .before .before .before .if1 .left))
+returns-2 c = rw (ne-eqb _ _ (c .before .before .before .before .if1 .left), ← c .before .before .trust-in .ensures, ← c .before .car-has-validated-phone .ensures, ← c .session-of .ensures)
 
 pub phone-access-of-spec : {M : Type 1} → statement M
-phone-access-of-spec = tie.close (tie.spec no-access-requires returns trust-in-requires car-has-validated-phone-requires session-of-requires returns-2)
+phone-access-of-spec =
+    tie.close
+    (tie.spec
+    no-access-requires
+    returns
+    trust-in-requires
+    car-has-validated-phone-requires
+    session-of-requires
+    returns-2)

@@ -10,6 +10,5 @@ put-pairings-spec =
     (tie.spec
     (λ c κs. tt)
     (λ c κs. tt)
-    (λ c κs. tt)
     (λ c. search needs)
-    (λ c. rw (c .before .before .put-peer .ensures, c .before .before .before .before .before .before .before .put-validated .ensures, c .before .before .before .before .before .before .before .before .before .before .before .before .put-phones .ensures)))
+    (λ c. rw (c .before .before .put-validated .ensures, c .before .before .before .before .before .before .before .put-phones .ensures)))

@@ -1,16 +1,16 @@
-use Rattle.validation.specs.Calls.{rightCode, succeed}
+use Rattle.validation.specs.Calls.{succeed, rightCode}
 use Rattle.submit.proofs.right_code.Statement.{statement}
 use Rattle.submit.proofs.right_code.Tie as tie
-
-full-for-requires : tie.Need-full-for-requires
-full-for-requires c κs = tt
 
 notified-requires : tie.Need-notified-requires
 notified-requires c κs = tt
 
+unvalidated-requires : tie.Need-unvalidated-requires
+unvalidated-requires c κs = tt
+
 returns : tie.Need-returns
-unfolding rightCode succeed
-returns c = rw (c .notified .ensures, ← c .before .before .full-for .ensures, c .before .if1 .taken)
+unfolding rightCode
+returns c = rw (c .before .before .if1 .taken, ← c .before .notified .ensures, ← c .unvalidated .ensures)
 
 succeeded-core-requires : tie.Need-succeeded-core-requires
 succeeded-core-requires c κs = tt
@@ -23,14 +23,14 @@ succeed-requires c κs = tt
 
 returns-2 : tie.Need-returns-2
 unfolding rightCode succeed
-returns-2 c = rw (c .succeed .ensures, c .before .reply-of .ensures, c .before .before .before .succeeded-core .ensures, ← c .before .before .before .before .before .full-for .ensures, c .before .before .before .before .if1 .left)
+returns-2 c = rw (c .succeed .ensures, c .before .reply-of .ensures, c .before .before .before .succeeded-core .ensures, c .before .before .before .before .if1 .left)
 
 pub right-code-spec : {M : Type 1} → statement M
 right-code-spec =
     tie.close
     (tie.spec
-    full-for-requires
     notified-requires
+    unvalidated-requires
     returns
     succeeded-core-requires
     reply-of-requires

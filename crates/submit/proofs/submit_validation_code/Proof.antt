@@ -19,20 +19,26 @@ enum-known-lapse c = search needs
 end-session-requires : tie.Need-end-session-requires
 end-session-requires c κs = tt
 
+unvalidated-requires : tie.Need-unvalidated-requires
+unvalidated-requires c κs = tt
+
 returns : tie.Need-returns
 unfolding submit checked
 returns c = rw (c .submitted .ensures, c .before .before .before .before .if1 .taken, ← c .before .before .before .lapse-of .ensures, c .before .enum-told .given .1)
 
 returns-2 : tie.Need-returns-2
 unfolding submit checked
-returns-2 c = rw (c .end-session .ensures, c .before .before .before .before .before .if1 .taken, ← c .before .before .before .before .lapse-of .ensures, c .before .before .lapse .given .1)
+returns-2 c = rw (c .unvalidated .ensures, c .before .end-session .ensures, c .before .before .before .before .before .before .if1 .taken, ← c .before .before .before .before .before .lapse-of .ensures, c .before .before .before .lapse .given .1)
 
 leave-requires : tie.Need-leave-requires
 leave-requires c κs = tt
 
+unvalidated-requires-2 : tie.Need-unvalidated-requires-2
+unvalidated-requires-2 c κs = tt
+
 returns-3 : tie.Need-returns-3
 unfolding submit checked
-returns-3 c = rw (c .leave .ensures, c .before .if1 .left)
+returns-3 c = rw (c .unvalidated2 .ensures, c .before .leave .ensures, c .before .before .if1 .left)
 
 pub submit-validation-code-spec : {M : Type 1} → statement M
 submit-validation-code-spec =
@@ -43,7 +49,9 @@ submit-validation-code-spec =
     submitted-requires
     enum-known-lapse
     end-session-requires
+    unvalidated-requires
     returns
     returns-2
     leave-requires
+    unvalidated-requires-2
     returns-3)

@@ -13,14 +13,17 @@ judge-as-requires c κs = tt
 
 returns : tie.Need-returns
 unfolding submitted
-returns c = rw (c .judge-as .ensures, c .before .method-at .ensures, ← c .before .before .before .before .runs-for .ensures, c .before .before .before .if1 .taken)
+returns c = rw (← c .before .before .before .before .runs-for .ensures, c .before .before .before .if1 .taken, ← c .before .method-at .ensures, ← c .judge-as .ensures)
 
 notified-requires : tie.Need-notified-requires
 notified-requires c κs = tt
 
+unvalidated-requires : tie.Need-unvalidated-requires
+unvalidated-requires c κs = tt
+
 returns-2 : tie.Need-returns-2
 unfolding submitted
-returns-2 c = rw (c .notified .ensures, ← c .before .before .runs-for .ensures, c .before .if1 .left)
+returns-2 c = rw (← c .before .before .before .runs-for .ensures, c .before .before .if1 .left, ← c .before .notified .ensures, ← c .unvalidated .ensures)
 
 pub submitted-spec : {M : Type 1} → statement M
 submitted-spec =
@@ -31,4 +34,5 @@ submitted-spec =
     judge-as-requires
     returns
     notified-requires
+    unvalidated-requires
     returns-2)

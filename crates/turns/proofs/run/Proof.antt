@@ -2,9 +2,8 @@
 use borrow.Author.Needs.{needs}
 use denote.Ref.{now}
 use Rattle.calls.proofs.Laws.{line-phone, line-can, line-plain, line-long, line-other}
-use Rattle.definition.specs.Gate.{step}
 use Rattle.items.specs.Bytes.{lentBytes}
-use Rattle.turns.specs.Turns.{laid}
+use Rattle.turns.proofs.Laws.{laid-ask}
 use Rattle.turns.proofs.run.Statement.{statement}
 use Rattle.turns.proofs.run.Tie as tie
 
@@ -24,10 +23,9 @@ returns-3 c =
     rw (line-plain (a .i) (lentBytes (a .p) (now (a .room))) (a .name) (c .before .before .before .before .before .before .before .before .if1 .left) (c .before .before .before .before .before .before .before .if2 .left) (c .before .before .before .before .before .before .if3 .taken), ← c .before .before .before .before .before .plain-query .ensures) (rw (c .before .before .before .before .no-signals .ensures) at (c .before .before .put-outcome3 .ensures))
 
 returns-4 : tie.Need-returns-4
-unfolding laid step
 returns-4 c =
     let a = c .before .before .before .before .before .before .before .before .before .before .before .before .before .before .args in
-    rw (line-long (a .i) (lentBytes (a .p) (now (a .room))) (a .name) (c .before .before .before .before .before .before .before .before .before .before .before .if1 .left) (c .before .before .before .before .before .before .before .before .before .before .if2 .left) (c .before .before .before .before .before .before .before .before .before .if3 .left) (c .before .before .before .before .before .before .before .before .if4 .taken), ← c .before .before .before .before .before .before .put-long .ensures) (c .before .before .put-calm .ensures)
+    rw (line-long (a .i) (lentBytes (a .p) (now (a .room))) (a .name) (c .before .before .before .before .before .before .before .before .before .before .before .if1 .left) (c .before .before .before .before .before .before .before .before .before .before .if2 .left) (c .before .before .before .before .before .before .before .before .before .if3 .left) (c .before .before .before .before .before .before .before .before .if4 .taken), laid-ask (a .g), ← c .before .before .before .before .before .before .put-long .ensures) (c .before .before .put-calm .ensures)
 
 returns-5 : tie.Need-returns-5
 returns-5 c =

@@ -8,7 +8,7 @@ with-probe-requires : tie.Need-with-probe-requires
 with-probe-requires c κs = tt
 
 returns : tie.Need-returns
-returns c = rw (c .before .with-probe .ensures, c .before .before .with-validation .ensures)
+returns c = rw (c .before .before .with-probe .ensures, c .before .before .before .with-validation .ensures)
 
 pub set-counters-spec : {M : Type 1} → statement M
 set-counters-spec = tie.close (tie.spec with-validation-requires with-probe-requires returns)

@@ -1,5 +1,4 @@
 use Rattle.validations.specs.Store.{forget}
-use borrow.Author.Needs.{needs}
 use Rattle.validations.proofs.forget_phone_validation.Statement.{statement}
 use Rattle.validations.proofs.forget_phone_validation.Tie as tie
 
@@ -8,7 +7,7 @@ forgetting-requires c κs = tt
 
 returns : tie.Need-returns
 unfolding forget
-returns c = search needs
+returns c = rw (← c .forgetting .ensures)
 
 pub forget-phone-validation-spec : {M : Type 1} → statement M
 forget-phone-validation-spec = tie.close (tie.spec forgetting-requires returns)

@@ -1,24 +1,29 @@
-use Rattle.validations.specs.Store.{validate}
-use Rattle.validations.proofs.Laws.{append-one}
+use Rattle.validations.proofs.Laws.{append-one, of-car-laid}
+use Rattle.validations.specs.Store.{validating}
+use Rattle.phones.specs.Ids.{pushed}
+use Rattle.phones.specs.Phones.{idBytes, phonesOf}
 use Rattle.validations.proofs.validate.Statement.{statement}
 use Rattle.validations.proofs.validate.Tie as tie
 
-of-car-requires : tie.Need-of-car-requires
-of-car-requires c κs = tt
+is-of-car-requires : tie.Need-is-of-car-requires
+is-of-car-requires c κs = tt
 
 contains-id-requires : tie.Need-contains-id-requires
 contains-id-requires c κs = tt
 
 returns : tie.Need-returns
-unfolding validate
-returns c = rw (← c .before .before .before .of-car .ensures, c .before .before .if1 .taken, ← c .before .contains-id .ensures, c .if2 .taken)
+unfolding validating
+returns c = rw (← c .before .before .before .is-of-car .ensures, c .before .before .if1 .taken, ← c .before .contains-id .ensures, c .if2 .taken)
 
 append-requires : tie.Need-append-requires
 append-requires c κs = tt
 
 returns-2 : tie.Need-returns-2
-unfolding validate
-returns-2 c = rw (c .append .ensures, ← c .before .before .before .before .of-car .ensures, c .before .before .before .if1 .taken, ← c .before .before .contains-id .ensures, c .before .if2 .left)
+unfolding validating
+returns-2 c =
+    let a = c .before .before .before .before .before .before .before .args in
+    rw (c .append .ensures, ← c .before .before .before .before .before .is-of-car .ensures, c .before .before .before .before .if1 .taken, ← c .before .before .before .contains-id .ensures, c .before .before .if2 .left)
+    (of-car-laid (a .v) (pushed (idBytes (a .p)) (phonesOf (a .v .phones))))
 
 empty-list-requires : tie.Need-empty-list-requires
 empty-list-requires c κs = tt
@@ -27,14 +32,14 @@ append-requires-2 : tie.Need-append-requires-2
 append-requires-2 c κs = tt
 
 returns-3 : tie.Need-returns-3
-unfolding validate
-returns-3 c = rw (c .append2 .ensures, c .before .empty-list .ensures, append-one _, ← c .before .before .before .of-car .ensures, c .before .before .if1 .left)
+unfolding validating
+returns-3 c = rw (c .append2 .ensures, c .before .empty-list .ensures, append-one _, ← c .before .before .before .is-of-car .ensures, c .before .before .if1 .left)
 
 pub validate-spec : {M : Type 1} → statement M
 validate-spec =
     tie.close
     (tie.spec
-    of-car-requires
+    is-of-car-requires
     contains-id-requires
     returns
     append-requires

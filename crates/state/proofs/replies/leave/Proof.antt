@@ -3,15 +3,15 @@ use Rattle.state.specs.Replies.{reply, leave}
 use Rattle.state.proofs.replies.leave.Statement.{statement}
 use Rattle.state.proofs.replies.leave.Tie as tie
 
-no-signals-requires : tie.Need-no-signals-requires
-no-signals-requires c κs = tt
+nothing-raised-requires : tie.Need-nothing-raised-requires
+nothing-raised-requires c κs = tt
 
 reply-requires : tie.Need-reply-requires
 reply-requires c κs = tt
 
 returns : tie.Need-returns
 unfolding reply leave
-returns c = rw (← c .before .no-signals .ensures, c .reply .ensures)
+returns c = rw (← c .before .nothing-raised .ensures, c .reply .ensures)
 
 pub leave-spec : {M : Type 1} → statement M
-leave-spec = tie.close (tie.spec no-signals-requires reply-requires returns)
+leave-spec = tie.close (tie.spec nothing-raised-requires reply-requires returns)

@@ -7,11 +7,8 @@ policy-requires c κs = tt
 with-policy-requires : tie.Need-with-policy-requires
 with-policy-requires c κs = tt
 
-with-paired-requires : tie.Need-with-paired-requires
-with-paired-requires c κs = tt
-
 returns : tie.Need-returns
-returns c = rw (c .with-paired .ensures, c .before .with-policy .ensures, c .before .before .policy .ensures)
+returns c = rw (c .before .before .before .with-policy .ensures, c .before .before .before .before .before .policy .ensures)
 
 pub open-spec : {M : Type 1} → statement M
-open-spec = tie.close (tie.spec policy-requires with-policy-requires with-paired-requires returns)
+open-spec = tie.close (tie.spec policy-requires with-policy-requires returns)

@@ -2,9 +2,11 @@ use mathlib.Core.Path.{_≡_, ap, _∙_}
 use denote.Ref.{now}
 use lib.ListN.{replicate}
 use Rattle.phones.specs.declared.MadeId.{MadeId}
+use Rattle.state.specs.declared.Gate.{Gate}
 use Rattle.new_gate.specs.New.{newGate}
-use Rattle.definition.specs.Gate.{Given, step, change, restorePhoneValidations}
+use Rattle.definition.specs.Gate.{Given, step, onLists, restorePhoneValidations}
 use Rattle.timed.specs.Held.{settings, methodOf, opened, ready}
+use Rattle.timed.proofs.Laws.{new-gate-is}
 use Rattle.timed.proofs.held.ready.Statement.{statement}
 use Rattle.timed.proofs.held.ready.Tie as tie
 
@@ -21,13 +23,14 @@ open-requires : tie.Need-open-requires
 open-requires c κs = tt
 
 returns : tie.Need-returns
-unfolding ready step
+unfolding ready
 returns c =
     let a = c .before .before .before .before .before .before .before .before .before .args in
-    let call = change (restorePhoneValidations (now (a .bytes))) in
+    let call = onLists (restorePhoneValidations (now (a .bytes))) in
     c .«open» .ensures
     ∙ ap (λ (x : Given). opened (x .gate) (a .digest)) (c .before .before .restore-phone-validations .ensures)
     ∙ ap (λ (x : Given). opened (step (x .gate) call .gate) (a .digest)) (c .before .before .before .before .new-gate .ensures (c .before .before .before .before .new-gate .result .gate))
+    ∙ ap (λ (x : Gate). opened (step x call .gate) (a .digest)) (new-gate-is _ _ _ _)
     ∙ ap (λ (m : MadeId). opened (step (newGate settings (replicate 8 (methodOf m)) 1 .gate) call .gate) (a .digest)) (c .before .before .before .before .before .before .make-id .ensures)
 
 pub ready-spec : {M : Type 1} → statement M

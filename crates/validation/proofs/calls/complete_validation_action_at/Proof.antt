@@ -18,13 +18,16 @@ enum-known-lapse c = search needs
 end-session-requires : tie.Need-end-session-requires
 end-session-requires c κs = tt
 
+unvalidated-requires : tie.Need-unvalidated-requires
+unvalidated-requires c κs = tt
+
 returns : tie.Need-returns
 unfolding complete
-returns c = rw (c .completed .ensures, ← c .before .before .before .lapse-of .ensures, c .before .enum-told .given .1)
+returns c = rw (← c .before .before .before .lapse-of .ensures, c .before .enum-told .given .1, ← c .completed .ensures)
 
 returns-2 : tie.Need-returns-2
 unfolding complete
-returns-2 c = rw (c .end-session .ensures, ← c .before .before .before .before .lapse-of .ensures, c .before .before .lapse .given .1)
+returns-2 c = rw (← c .before .before .before .before .before .lapse-of .ensures, c .before .before .before .lapse .given .1, ← c .before .end-session .ensures, ← c .unvalidated .ensures)
 
 pub complete-validation-action-at-spec : {M : Type 1} → statement M
 complete-validation-action-at-spec =
@@ -35,5 +38,6 @@ complete-validation-action-at-spec =
     completed-requires
     enum-known-lapse
     end-session-requires
+    unvalidated-requires
     returns
     returns-2)

@@ -20,11 +20,11 @@ end-session-requires c κs = tt
 
 returns : tie.Need-returns
 unfolding tick
-returns c = rw (c .leave .ensures, ← c .before .before .before .lapse-of .ensures, c .before .enum-told .given .1)
+returns c = rw (← c .before .before .before .lapse-of .ensures, c .before .enum-told .given .1, ← c .leave .ensures)
 
 returns-2 : tie.Need-returns-2
 unfolding tick
-returns-2 c = rw (c .end-session .ensures, ← c .before .before .before .before .lapse-of .ensures, c .before .before .lapse .given .1)
+returns-2 c = rw (← c .before .before .before .before .lapse-of .ensures, c .before .before .lapse .given .1, ← c .end-session .ensures)
 
 pub tick-validation-spec : {M : Type 1} → statement M
 tick-validation-spec =

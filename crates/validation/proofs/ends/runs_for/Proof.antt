@@ -10,7 +10,7 @@ is-of-requires c κs = tt
 
 returns : tie.Need-returns
 unfolding runsFor
-returns c = rw (c .is-of .ensures, ← c .before .before .in-progress .ensures, c .before .if1 .taken)
+returns c = rw (← c .before .before .in-progress .ensures, c .before .if1 .taken, ← c .is-of .ensures)
 
 returns-2 : tie.Need-returns-2
 unfolding runsFor

@@ -1,17 +1,13 @@
+use Rattle.state.specs.Replies.{challengeChanged, finish}
 use Rattle.validation.proofs.ends.succeed.Statement.{statement}
 use Rattle.validation.proofs.ends.succeed.Tie as tie
 
-record-for-requires : tie.Need-record-for-requires
-record-for-requires c κs = tt
-
-validated-requires : tie.Need-validated-requires
-validated-requires c κs = tt
-
-finish-requires : tie.Need-finish-requires
-finish-requires c κs = tt
+finished-requires : tie.Need-finished-requires
+finished-requires c κs = tt
 
 returns : tie.Need-returns
-returns c = rw (c .finish .ensures, c .before .validated .ensures, c .before .before .record-for .ensures)
+unfolding finish challengeChanged
+returns c = rw (← c .finished .ensures)
 
 pub succeed-spec : {M : Type 1} → statement M
-succeed-spec = tie.close (tie.spec record-for-requires validated-requires finish-requires returns)
+succeed-spec = tie.close (tie.spec finished-requires returns)

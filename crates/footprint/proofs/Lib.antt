@@ -1,0 +1,5 @@
+pub mod Keeps
+pub mod Core
+pub mod Sessions
+pub mod Lists
+pub mod Proved

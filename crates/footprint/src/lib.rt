@@ -1,0 +1,1 @@
+// Which parts of the gate each call may touch. Definitions and theorems only: nothing here runs.

@@ -1,0 +1,140 @@
+// The calls of the probe, on frames, and the host's notes: one function for each. State by value in; answer, signals and state by value
+// out. Each promise is an equation with `step` of definition/specs/Gate.antt, for every gate that is lent.
+use frames::CanFrame;
+use frames::ProbeFrame;
+use frames::TxClass;
+use state::Gate;
+use state::Outcome;
+ghost use mathlib.Core.Path.{_≡_};
+ghost use Rattle.definition.specs.Gate.{openIdentityProbe, closeIdentityProbe, allowCanTx, heardCanFrame, notePlatformId, noteCanLogging, noteCanFdBus, noteMethodAvailable, noteMethodCanContinue, onCore, step, given};
+ghost use Rattle.state.specs.View.{listsIn};
+ghost use Rattle.phone_trust.specs.Trust.{isValidated};
+ghost use Rattle.gate_frames.specs.Owner.{ofClass};
+
+pub fn open_identity_probe(
+    g: Gate,
+    bus: u8,
+    frames: [ProbeFrame; 4],
+    count: usize,
+    clock: u64,
+) -> Outcome
+    ensures { λ r. ⌜ given r ≡ step g (onCore (openIdentityProbe bus frames count clock)) ⌝ }
+{
+    if range::in_range(g) {
+        let core = g.core;
+        let said = can_probe::open_identity_probe(core, bus, frames, count, clock);
+        return outcomes::settled(g, said);
+    }
+    outcomes::unserved(g)
+}
+
+pub fn close_identity_probe(g: Gate) -> Outcome
+    ensures { λ r. ⌜ given r ≡ step g (onCore closeIdentityProbe) ⌝ }
+{
+    if range::in_range(g) {
+        let core = g.core;
+        let said = can_probe::close_identity_probe(core);
+        return outcomes::settled(g, said);
+    }
+    outcomes::unserved(g)
+}
+
+// Whether the owner of a command is validated; a platform frame has none.
+fn owner_validated(g: Gate, class: TxClass, owner: &[u8]) -> bool
+    ensures { λ r. ⌜ r ≡ ofClass class (isValidated (g .core .policy .identity) (listsIn (g .phones)) (now (owner .entry))) ⌝ }
+{
+    match class {
+        TxClass::Platform => false,
+        TxClass::Command => {
+            let identity = g.core.policy.identity;
+            let phones = g.phones;
+            phone_trust::is_phone_validated(identity, phones, owner)
+        }
+    }
+}
+
+// `owner` is the phone that a command is for; for a platform frame it is not looked at.
+pub fn allow_can_tx(
+    g: Gate,
+    bus: u8,
+    frame: CanFrame,
+    class: TxClass,
+    owner: &[u8],
+    clock: u64,
+) -> Outcome
+    ensures { λ r. ⌜ given r ≡ step g (onCore (allowCanTx bus frame class (now (owner .entry)) clock)) ⌝ }
+{
+    if range::in_range(g) {
+        let core = g.core;
+        let validated = owner_validated(g, class, owner);
+        let said = can_tx::allow_can_tx(core, bus, frame, class, validated, clock);
+        return outcomes::settled(g, said);
+    }
+    outcomes::unserved(g)
+}
+
+pub fn heard_can_frame(g: Gate, bus: u8, clock: u64) -> Outcome
+    ensures { λ r. ⌜ given r ≡ step g (onCore (heardCanFrame bus clock)) ⌝ }
+{
+    if range::in_range(g) {
+        let core = g.core;
+        let said = can_probe::heard_can_frame(core, bus, clock);
+        return outcomes::settled(g, said);
+    }
+    outcomes::unserved(g)
+}
+
+pub fn note_platform_id(g: Gate, number: u32) -> Outcome
+    ensures { λ r. ⌜ given r ≡ step g (onCore (notePlatformId number)) ⌝ }
+{
+    if range::in_range(g) {
+        let core = g.core;
+        let said = car_identity::note_platform_id(core, number);
+        return outcomes::settled(g, said);
+    }
+    outcomes::unserved(g)
+}
+
+pub fn note_can_logging(g: Gate, on: bool) -> Outcome
+    ensures { λ r. ⌜ given r ≡ step g (onCore (noteCanLogging on)) ⌝ }
+{
+    if range::in_range(g) {
+        let core = g.core;
+        let said = can::note_can_logging(core, on);
+        return outcomes::settled(g, said);
+    }
+    outcomes::unserved(g)
+}
+
+pub fn note_can_fd_bus(g: Gate, bus: u8, on: bool) -> Outcome
+    ensures { λ r. ⌜ given r ≡ step g (onCore (noteCanFdBus bus on)) ⌝ }
+{
+    if range::in_range(g) {
+        let core = g.core;
+        let said = can::note_can_fd_bus(core, bus, on);
+        return outcomes::settled(g, said);
+    }
+    outcomes::unserved(g)
+}
+
+pub fn note_method_available(g: Gate, place: usize, on: bool) -> Outcome
+    ensures { λ r. ⌜ given r ≡ step g (onCore (noteMethodAvailable place on)) ⌝ }
+{
+    if range::in_range(g) {
+        let core = g.core;
+        let said = methods::note_method_available(core, place, on);
+        return outcomes::settled(g, said);
+    }
+    outcomes::unserved(g)
+}
+
+pub fn note_method_can_continue(g: Gate, place: usize, on: bool) -> Outcome
+    ensures { λ r. ⌜ given r ≡ step g (onCore (noteMethodCanContinue place on)) ⌝ }
+{
+    if range::in_range(g) {
+        let core = g.core;
+        let said = methods::note_method_can_continue(core, place, on);
+        return outcomes::settled(g, said);
+    }
+    outcomes::unserved(g)
+}
