@@ -3,8 +3,8 @@ use mathlib.Core.Path.{refl}
 use mathlib.Core.List.{List, _++_, map-append}
 use Prim.Native.Nat.{ℕ}
 use Rattle.arrays.specs.Arrays.{padded, sameBytes}
-use Rattle.phones.specs.Ids.{someOf, pushed}
-use Rattle.phones.specs.Phones.{allInRange, idBytes, idInRange, idOf, listInRange, listOf, phonesOf, tooLong}
+use Rattle.phones.specs.Ids.{someOf, joined, roomFor, pushed}
+use Rattle.phones.specs.Phones.{idBytes, idInRange, idOf, idsIn, listInRange, listOf, phonesOf, tooLong}
 use Rattle.frames.specs.Frames.{isEntry}
 use Rattle.draw.specs.Draw.{digits, drawLimit, drawn, firstBelow, group}
 use Rattle.text.specs.Utf8.{begins3, begins4, decode, decode2, decode3, decode4, encode, encodeAll, scalar, scalars, utf8-2, utf8-3, utf8-4, within}
@@ -38,7 +38,7 @@ use Rattle.definition.specs.Cases.{Row, Holds, Table, p1-p4, p5, p6, p7,
 -- ---- what the cases compute through
 
 unfoldable openLeaves1 : Unit {0}
-unfolding padded sameBytes idBytes idOf tooLong idInRange someOf phonesOf listOf allInRange listInRange isEntry drawLimit group
+unfolding padded sameBytes idBytes idOf tooLong idInRange someOf joined idsIn phonesOf listOf listInRange isEntry drawLimit group
 openLeaves1 = tt
 
 unfoldable openLeaves2 : Unit {0}
@@ -90,7 +90,7 @@ unfolding CarIdentity.confirmPlatform
 openAccess3 = tt
 
 unfoldable openPhones : Unit {0}
-unfolding pushed Store.recordFor Store.restore Store.isFull Store.isOfCar Store.validating
+unfolding roomFor pushed Store.recordFor Store.restore Store.isFull Store.isOfCar Store.validating
 openPhones = tt
 
 unfoldable openProbe1 : Unit {0}

@@ -223,43 +223,65 @@ says v (ask q) = asked v (answerTo v q)
 pub data Lent : Type 0 where
   nothing : Lent
 
--- what a call gives: the answer by document 01's number and values, and as it is returned; signals, lent memory, gate
-pub record Given : Type 0 where
+-- what a call gives: the answer by document 01's number and values, and as it is returned; signals, lent memory, gate. G is a gate, L a
+-- list, as they lie in memory
+pub record GivenIn (G L : Type 0) : Type 0 where
   pub numbered : Numbered
-  pub answer : Reply PhoneList
+  pub answer : Reply L
   pub signals : Signals
   pub lent : Lent
-  pub gate : Gate
+  pub gate : G
 
--- an answer as it is returned: a list in it is laid canonically
-abbrev pub laidReply : Reply (List (List ℕ)) → Reply PhoneList
-laidReply (plain a) = plain a
-laidReply (Query.approval a) = Query.approval a
-laidReply (Query.access a) = Query.access a
-laidReply (Query.phones a ps) = Query.phones a (listOf ps)
-laidReply (Query.trust a) = Query.trust a
-laidReply (Query.peer a) = Query.peer a
-laidReply (Query.phoneAccess a) = Query.phoneAccess a
-laidReply (Query.methods a) = Query.methods a
-laidReply (Query.challenge a) = Query.challenge a
-laidReply (Query.saved a) = Query.saved a
+-- how a gate lies in memory: what is seen of it, the gate that a call leaves, and a list that is returned
+pub record Form (G L : Type 0) : Type 0 where
+  pub view : G → View
+  pub left : G → Says → G
+  pub lay : List (List ℕ) → L
+
+-- an answer with its list written otherwise
+abbrev pub replied : {K L : Type 0} → (K → L) → Reply K → Reply L
+replied f (plain a) = plain a
+replied f (Query.approval a) = Query.approval a
+replied f (Query.access a) = Query.access a
+replied f (Query.phones a ps) = Query.phones a (f ps)
+replied f (Query.trust a) = Query.trust a
+replied f (Query.peer a) = Query.peer a
+replied f (Query.phoneAccess a) = Query.phoneAccess a
+replied f (Query.methods a) = Query.methods a
+replied f (Query.challenge a) = Query.challenge a
+replied f (Query.saved a) = Query.saved a
+
+-- S, where it is sent, is the record of the store that is left
+unfoldable pub gives : {G L : Type 0} → Form G L → G → Says → GivenIn G L
+gives f g s = record {
+  numbered = numberedReply (s .answer);
+  answer = replied (f .lay) (s .answer);
+  signals = sending (s .raised) (cond (s .stores) (sentS (recordFor (afterwards (f .view g .lists .store) (s .store)))) noS);
+  lent = nothing;
+  gate = f .left g s;
+}
+
+abbrev pub stepIn : {G L : Type 0} → Form G L → G → Call → GivenIn G L
+stepIn f g k = gives f g (says (f .view g) k)
+
+-- ---- the gate as it lies in memory: lists are packed
 
 -- the gate that a call leaves
 unfoldable pub left : Gate → Says → Gate
 left g s = record { core = s .core; phones = laidPhones (g .phones) (s .paired) (s .store); code = s .code }
 
--- S, where it is sent, is the record of the store that is left
-unfoldable pub gives : Gate → Says → Given
-gives g s = record {
-  numbered = numberedReply (s .answer);
-  answer = laidReply (s .answer);
-  signals = sending (s .raised) (cond (s .stores) (sentS (recordFor (afterwards (view g .lists .store) (s .store)))) noS);
-  lent = nothing;
-  gate = left g s;
-}
+abbrev pub packed : Form Gate PhoneList
+packed = record { view = view; left = left; lay = listOf }
+
+abbrev pub Given : Type 0
+Given = GivenIn Gate PhoneList
+
+-- an answer as it is returned: a list in it is laid canonically
+abbrev pub laidReply : Reply (List (List ℕ)) → Reply PhoneList
+laidReply r = replied listOf r
 
 unfoldable pub step : Gate → Call → Given
-step g k = gives g (says (view g) k)
+step g k = stepIn packed g k
 
 -- the gate that a call leaves
 abbrev pub after : Gate → Call → Gate

@@ -4,8 +4,7 @@ use phones::ShortId;
 use saved_record::SavedRecord;
 use state::Method;
 ghost use mathlib.Core.Path.{_≡_};
-ghost use mathlib.Core.List.{[]};
-ghost use lib.ListN.{take, getD};
+ghost use lib.ListN.{take};
 ghost use Rattle.phones.specs.Phones.{idBytes, phonesOf};
 ghost use Rattle.lines.specs.Page.{page, bytes};
 ghost use Rattle.lines.specs.Parts.{idAt, idsFrom, method};
@@ -18,24 +17,29 @@ pub fn put_phone(out: &mut [u8], at: usize, p: ShortId) -> usize
     crate::fields::put_first(out, at, &all, p.len)
 }
 
-// The id at a place of a list.
-fn put_phone_at(out: &mut [u8], at: usize, l: PhoneList, i: usize) -> usize
-    ensures { λ r. ⌜ page (now (out .exit)) r ≡ idAt i (getD (phonesOf l) i []) (page (now (out .entry)) at) ⌝ }
+// The id at place `i` of a list.
+fn put_phone_at(out: &mut [u8], at: usize, i: usize, id: &[u8]) -> usize
+    ensures { λ r. ⌜ page (now (out .exit)) r ≡ idAt i (now (id .entry)) (page (now (out .entry)) at) ⌝ }
 {
     let k = crate::put_comma(out, at, i);
-    let p = phones::phone_at(l, i);
-    put_phone(out, k, p)
+    crate::put_bytes(out, k, id)
 }
 
 // The ids of a list.
 pub fn put_phones(out: &mut [u8], at: usize, l: PhoneList) -> usize
     ensures { λ r. ⌜ page (now (out .exit)) r ≡ idsFrom 0 (phonesOf l) (page (now (out .entry)) at) ⌝ }
 {
-    let n = phones::count(l);
+    let lens = l.lens;
+    let count = l.count;
+    let ids: &[u8] = &l.bytes;
+    let n = phones::clamp(count);
     let mut k = at;
+    let mut from = 0;
     let mut i = 0;
     while i < n {
-        k = put_phone_at(out, k, l, i);
+        let end = from + phones::part(lens[i], ids.len() - from);
+        k = put_phone_at(out, k, i, &ids[from..end]);
+        from = end;
         i += 1;
     }
     k

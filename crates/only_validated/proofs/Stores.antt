@@ -7,7 +7,7 @@ use lib.Dec.{eqb, ltb}
 use lib.ListN.{length, replicate}
 use Rattle.arrays.specs.Arrays.{sameBytes}
 use Rattle.arrays.proofs.Laws.{same-bytes-is}
-use Rattle.phones.specs.Ids.{someOf, kept, contains, Left, stays, becomes, afterwards, pushed}
+use Rattle.phones.specs.Ids.{someOf, kept, contains, Left, stays, becomes, afterwards, roomFor, pushed}
 use Rattle.phones.proofs.Members.{contains-append}
 use Rattle.saved_record.specs.SavedRecord.{Reading, malformed, tooLarge, ok}
 use Rattle.state.specs.View.{Store}
@@ -89,7 +89,7 @@ module _ (P : List ℕ → List ℕ → Type 0) (s : Store) where
 
     gain-pushed : sameBytes (s .car) at ≡ true → Gains P s (ofCar (s .car) (pushed id (s .phones)))
     unfolding pushed
-    gain-pushed same = cases (λ (x : Left (List (List ℕ))). Gains P s (ofCar (s .car) x)) (ltb (length (s .phones)) 32) _ _ (λ e. gain-last same) (λ e. gain-stays)
+    gain-pushed same = cases (λ (x : Left (List (List ℕ))). Gains P s (ofCar (s .car) x)) (roomFor id (s .phones)) _ _ (λ e. gain-last same) (λ e. gain-stays)
 
     -- a list of another car is replaced
     gain-new : Gains P s (becomes (record { car = at; phones = id ∷ [] }))

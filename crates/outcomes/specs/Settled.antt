@@ -13,7 +13,7 @@ use Rattle.state.specs.declared.Outcome.{Outcome}
 use Rattle.state.specs.Replies.{noS, sentS, sending, noCode, codeAt, showing}
 use Rattle.state.specs.View.{Store, Listing, view, laidStore, listedIn}
 use Rattle.validations.specs.Store.{recordFor}
-use Rattle.definition.specs.Gate.{saying, ofLists, gives, given}
+use Rattle.definition.specs.Gate.{saying, ofLists, gives, packed, given}
 
 -- what an operation on the core says, with the digits where it marks them, and S beside it
 unfoldable pub put : Gate → List ℕ → Said → ValidationsSignal → Outcome
@@ -29,8 +29,8 @@ storedIf stores s = cond stores (sentS (recordFor s)) noS
 
 -- a store that is laid down already is sent, whatever became of it
 abbrev pub Stores : Gate → Said → Validations → Outcome → Type 0
-Stores g o v r = (x : Left Store) → v ≡ laidStore (g .phones .store) x → given r ≡ gives g (saying (view g) noCode o true x)
+Stores g o v r = (x : Left Store) → v ≡ laidStore (g .phones .store) x → given r ≡ gives packed g (saying (view g) noCode o true x)
 
 -- lists that are laid down already, whatever operation left them
 abbrev pub Settles : Gate → Listed → Outcome → Type 0
-Settles g x r = (d : Listing) → x ≡ listedIn (g .phones) d → given r ≡ gives g (ofLists (view g) d)
+Settles g x r = (d : Listing) → x ≡ listedIn (g .phones) d → given r ≡ gives packed g (ofLists (view g) d)

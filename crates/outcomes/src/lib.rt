@@ -15,7 +15,7 @@ ghost use Rattle.state.specs.Replies.{noCode, sentS};
 ghost use Rattle.state.specs.View.{view, storeIn};
 ghost use Rattle.validations.specs.Store.{recordFor};
 ghost use Rattle.answers.specs.Query.{plain};
-ghost use Rattle.definition.specs.Gate.{ofCore, ofSession, ofApproval, asked, gives, given};
+ghost use Rattle.definition.specs.Gate.{ofCore, ofSession, ofApproval, asked, gives, packed, given};
 ghost use Rattle.outcomes.specs.Settled.{storedIf, Stores, Settles};
 ghost use Rattle.outcomes.specs.Settled as Settled;
 
@@ -29,7 +29,7 @@ fn stored(v: Validations) -> ValidationsSignal
 
 // 25: a gate out of range stays as it is.
 pub fn unserved(g: Gate) -> Outcome
-    ensures { λ r. ⌜ given r ≡ gives g (asked (view g) (plain BadSettings)) ⌝ }
+    ensures { λ r. ⌜ given r ≡ gives packed g (asked (view g) (plain BadSettings)) ⌝ }
 {
     let signals = state::replies::no_signals();
     Outcome {
@@ -65,7 +65,7 @@ fn put(g: Gate, drawn: [u8; 9], said: Said, stored: ValidationsSignal) -> Outcom
 
 // What an operation on the core says, where the call drew digits: the lists stay.
 pub fn drew(g: Gate, drawn: [u8; 9], said: Said) -> Outcome
-    ensures { λ r. ⌜ given r ≡ gives g (ofCore (view g) drawn said) ⌝ }
+    ensures { λ r. ⌜ given r ≡ gives packed g (ofCore (view g) drawn said) ⌝ }
 {
     let none = state::replies::no_stored();
     put(g, drawn, said, none)
@@ -73,7 +73,7 @@ pub fn drew(g: Gate, drawn: [u8; 9], said: Said) -> Outcome
 
 // The same of a call that draws none.
 pub fn settled(g: Gate, said: Said) -> Outcome
-    ensures { λ r. ⌜ given r ≡ gives g (ofCore (view g) noCode said) ⌝ }
+    ensures { λ r. ⌜ given r ≡ gives packed g (ofCore (view g) noCode said) ⌝ }
 {
     let none = [0u8; 9];
     drew(g, none, said)
@@ -94,7 +94,7 @@ fn settled_with(g: Gate, said: Said, store: Validations) -> Outcome
 
 // What an operation on a session says: where it succeeds, its phone is validated for its car.
 pub fn ended(g: Gate, e: Ended) -> Outcome
-    ensures { λ r. ⌜ given r ≡ gives g (ofSession (view g) e) ⌝ }
+    ensures { λ r. ⌜ given r ≡ gives packed g (ofSession (view g) e) ⌝ }
 {
     let said = e.said;
     if e.validates {
@@ -110,7 +110,7 @@ pub fn ended(g: Gate, e: Ended) -> Outcome
 
 // What an approval says.
 pub fn approved(g: Gate, a: Approved) -> Outcome
-    ensures { λ r. ⌜ given r ≡ gives g (ofApproval (view g) a) ⌝ }
+    ensures { λ r. ⌜ given r ≡ gives packed g (ofApproval (view g) a) ⌝ }
 {
     let said = a.said;
     if a.empties {

@@ -2,12 +2,17 @@
 use mathlib.Core.Path.{_≡_, refl, ap}
 use mathlib.Core.Bool.{Bool, true, false, cond, true≢false}
 use mathlib.Core.List.{List, [], _∷_, _++_, append-assoc}
-use Prim.Native.Nat.{ℕ, zero, suc, _*_, _≤_}
+use Prim.Native.Nat.{ℕ, zero, suc, _+_, _*_, _≤_}
 use native.Mathlib.Omega.{arith}
 use borrow.Author.Tests.{le-ltb, ltb-false}
 use lib.Dec.{eqb, ltb}
-use lib.ListN.{length, take, drop, length-append, take-append-drop}
+use lib.ListN.{length, take, drop, length-append, length-take, take-append-drop}
 use lib.Seq.{length-take-le, drop-append-seam, take-append-seam}
+use Rattle.phones.specs.declared.PhoneList.{PhoneList}
+use Rattle.phones.specs.Ids.{joined}
+use Rattle.phones.specs.Phones.{idsIn, phonesOf}
+use Rattle.phones.proofs.Laws.{ids-length}
+use Rattle.phones.proofs.Walk.{ids-end}
 use Rattle.phones.proofs.Range.{Short}
 use Rattle.phone_fields.specs.PhoneFields.{field, fields, notWhole, whole, before, readFields, anyLong}
 
@@ -62,6 +67,25 @@ fields-length (p ∷ ps) h =
     let i = fields-length ps (λ k. h (suc k)) in
     let s : length p ≤ 32 = h zero in
     let a = length-append p (fields ps) in
+    omega arith
+
+fields-joined : (ps : List (List ℕ)) → length (fields ps) ≡ length ps + length (joined ps)
+unfolding field fields joined
+fields-joined [] = refl
+fields-joined (p ∷ ps) =
+    let i = fields-joined ps in
+    let a = length-append p (fields ps) in
+    let b = length-append p (joined ps) in
+    omega arith
+
+-- of whatever list; `search` finds the facts that this takes
+pub owned-fields : (l : PhoneList) → length (l .lens) ≡ 32 → length (l .bytes) ≡ 1024 → length (fields (phonesOf l)) ≤ 1056
+unfolding phonesOf
+owned-fields l h far =
+    let ns = take (l .count) (l .lens) in
+    let e = fields-joined (idsIn ns (l .bytes)) in
+    let n : length (idsIn ns (l .bytes)) ≤ 32 = rw (ids-length, length-take, h) (omega arith) in
+    let b = ids-end ns (l .bytes) in
     omega arith
 
 pub none-long-short : (ps : List (List ℕ)) → anyLong ps ≡ false → Short ps

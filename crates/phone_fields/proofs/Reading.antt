@@ -1,18 +1,18 @@
 -- Steps of the loops that read: a phone from what remains, then the tail after it.
-use mathlib.Core.Path.{_≡_, refl, _∙_}
+use mathlib.Core.Path.{_≡_, refl, sym, _∙_}
 use mathlib.Core.Bool.{Bool, true, false, cond}
 use mathlib.Core.List.{List, [], _∷_, _++_, append-nil}
-use Prim.Native.Nat.{ℕ, zero, suc, _+_, _-_, _≤_, _<_}
+use Prim.Native.Nat.{ℕ, zero, suc, _+_, _-_, _*_, _≤_, _<_}
 use native.Mathlib.Omega.{arith}
 use borrow.Author.Tests.{lt-ltb, le-ltb, ltb-false, ne-eqb}
 use lib.Dec.{eqb, ltb}
-use lib.ListN.{length, take, drop, getD, set, length-append, length-drop}
+use lib.ListN.{length, take, drop, getD, set, replicate, length-append, length-drop}
 use lib.Seq.{take-all, length-take-le}
+use Rattle.arrays.specs.Arrays.{put}
 use Rattle.arrays.proofs.Laws.{cond-same}
 use Rattle.phones.specs.declared.PhoneList.{PhoneList}
-use Rattle.phones.specs.declared.MadeId.{MadeId}
-use Rattle.phones.specs.Phones.{idOf, madeId, listOf}
-use Rattle.phones.proofs.Build.{stored}
+use Rattle.phones.specs.Phones.{listOf}
+use Rattle.phones.proofs.Build.{Built, built-none, built-list, built-more}
 use Rattle.phone_fields.specs.declared.FieldsVerdict.the-variants.{Whole, Malformed}
 use Rattle.phone_fields.specs.declared.FieldsRead.{FieldsRead}
 use Rattle.phone_fields.specs.PhoneFields.{PhonesRead, notWhole, whole, before, readFields, anyLong, overLimits, noList, fieldsRead}
@@ -159,27 +159,37 @@ long-read total ps p notWhole h = rw (after-none ps)
 long-read total ps p (whole qs rest) h =
     rw (after-whole ps (p ∷ qs) rest, any-long-append ps (p ∷ qs), lt-ltb 32 (length p) h, cond-same (anyLong ps) true, cond-same (ltb 32 (length (ps ++ (p ∷ qs)))) true)
 
--- ---- the loop that keeps the phones: `done` are those read so far
+-- ---- the loop that keeps the phones: `done` are those read so far, which end at `to` in the list that is built
 
-pub record Kept (count : ℕ) (bytes : List ℕ) (phones : PhoneList) (rest : List ℕ) (left : ℕ) (done : List (List ℕ)) : Type 0 where
+pub record Kept (count : ℕ) (bytes packed lens : List ℕ) (to : ℕ) (rest : List ℕ) (left : ℕ) (done : List (List ℕ)) : Type 0 where
   pub within : length rest ≤ length bytes
-  pub list : phones ≡ listOf done
+  pub built : Built packed lens (count - left) to done
+  pub room : to ≤ 32 * (count - left)
   pub many : length done + left ≡ count
   pub short : anyLong done ≡ false
   pub reading : readFields count bytes ≡ after done (readFields left rest)
 
-module _ (count : ℕ) (bytes : List ℕ) (phones : PhoneList) (rest : List ℕ) (left : ℕ) (done : List (List ℕ)) (fits : count ≤ 32) (k : Kept count bytes phones rest left done) where
+pub kept-start : (count : ℕ) (bytes : List ℕ) → Kept count bytes (replicate 1024 0) (replicate 32 0) 0 bytes count []
+unfolding after anyLong
+kept-start count bytes =
+    let z : count - count ≡ 0 = omega arith in
+    record { within = omega arith; built = rw z built-none; room = omega arith; many = omega arith; short = refl; reading = refl }
+
+module _ (count : ℕ) (bytes packed lens : List ℕ) (to : ℕ) (rest : List ℕ) (left : ℕ) (done : List (List ℕ)) (fits : count ≤ 32) (k : Kept count bytes packed lens to rest left done) where
   -- what remains cannot be read
   pub kept-none : readFields left rest ≡ notWhole → noList Malformed 0 ≡ fieldsRead (length bytes) (readFields count bytes)
   unfolding fieldsRead
   kept-none e = rw (k .reading, e, after-none done)
 
   -- all is read
-  pub kept-all : left ≤ 0 → _≡_ {A = FieldsRead} (record { verdict = Whole; phones = phones; used = length bytes - length rest }) (fieldsRead (length bytes) (readFields count bytes))
+  pub kept-all : left ≤ 0
+      → _≡_ {A = FieldsRead} (record { verdict = Whole; phones = record { bytes = packed; lens = lens; count = count }; used = length bytes - length rest }) (fieldsRead (length bytes) (readFields count bytes))
   unfolding fieldsRead overLimits
   kept-all z =
       let m = k .many in
-      rw (k .reading, read-all left rest z, after-whole done [] rest, append-nil done, le-ltb 32 (length done) (omega arith), k .short, k .list)
+      let c : count - left ≡ count = omega arith in
+      let l : _≡_ {A = PhoneList} (record { bytes = packed; lens = lens; count = count }) (listOf done) = built-list packed lens count to done (rw c at (k .built)) in
+      rw (k .reading, read-all left rest z, after-whole done [] rest, append-nil done, le-ltb 32 (length done) (omega arith), k .short, l)
 
   module _ (n : ℕ) (some-left : 0 < left) (e : n ≡ firstLength rest) (there : n ≡ 0 → ⊥) where
     first-length : length (take n (drop 1 rest)) ≡ n
@@ -190,16 +200,17 @@ module _ (count : ℕ) (bytes : List ℕ) (phones : PhoneList) (rest : List ℕ)
         rw (k .reading, read-first left rest n some-left e there)
         (long-read (length bytes) done (take n (drop 1 rest)) (readFields (left - 1) (drop (1 + n) rest)) (rw first-length h))
 
-    pub kept-step : (made : MadeId) → n ≤ 32 → made ≡ madeId (take (1 + n - 1) (drop 1 rest))
-        → Kept count bytes (record { ids = set (phones .ids) (count - left) (made .id); count = count - left + 1 }) (take (length rest - (1 + n)) (drop (1 + n) rest)) (left - 1) (done ++ (take n (drop 1 rest) ∷ []))
-    unfolding madeId
-    kept-step made h em =
+    pub kept-step : n ≤ 32
+        → Kept count bytes (put packed to (take (1 + n - 1) (drop 1 rest))) (set lens (count - left) n) (to + n) (take (length rest - (1 + n)) (drop (1 + n) rest)) (left - 1) (done ++ (take n (drop 1 rest) ∷ []))
+    kept-step h =
         let m = k .many in
+        let r = k .room in
         let w : 1 + n - 1 ≡ n = omega arith in
-        let id : made .id ≡ idOf (take n (drop 1 rest)) = rw (em, w, first-length, le-ltb 32 n h) in
+        let next : count - (left - 1) ≡ count - left + 1 = omega arith in
         record {
           within = tail-length rest (1 + n) (k .within);
-          list = stored phones (made .id) done (take n (drop 1 rest)) (count - left) (k .list) id (omega arith) (omega arith);
+          built = rw (w, next) (built-more packed lens (count - left) to n done (take n (drop 1 rest)) (k .built) (omega arith) (omega arith) (sym first-length));
+          room = omega arith;
           many = rw length-append (omega arith);
           short = none-long done (take n (drop 1 rest)) (k .short) (rw first-length h);
           reading =

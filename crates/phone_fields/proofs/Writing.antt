@@ -1,40 +1,25 @@
 -- Steps of the loop that writes: the first i phones stand from a place on.
 use mathlib.Core.Path.{_≡_, refl, ap, ap₂, sym, _∙_}
 use mathlib.Core.List.{List, [], _∷_, _++_, append-assoc, append-nil}
-use Prim.Native.Nat.{ℕ, suc, _+_, _≤_, _<_, min}
+use Prim.Native.Nat.{ℕ, suc, _+_, _≤_, _<_}
 use native.Mathlib.Numerals.{add-one}
 use native.Mathlib.Omega.{arith}
 use lib.ListN.{length, take, drop, getD, set, take-append-drop, length-append}
 use lib.Seq.{take-all, take-suc, take-suc-set, drop-drop, drop-set-lt}
 use Rattle.arrays.specs.Arrays.{put}
 use Rattle.arrays.proofs.Laws.{put-take, put-drop, put-length}
-use Rattle.phones.specs.declared.ShortId.{ShortId}
-use Rattle.phones.specs.Phones.{idBytes}
-use Rattle.phones.proofs.Laws.{bytes-used, used-length}
 use Rattle.phone_fields.specs.PhoneFields.{field, fields}
 
--- a byte, and a string right after it
-pub put-field : (d : List ℕ) (at v : ℕ) (s : List ℕ) → at < length d → put (set d at v) (at + 1) s ≡ put d at (v ∷ s)
-unfolding put
-put-field d at v s h =
+-- a phone: its length, and its bytes right after it
+pub put-field : (d : List ℕ) (at : ℕ) (s : List ℕ) → at < length d → put (set d at (length s)) (at + 1) s ≡ put d at (field s)
+unfolding put field
+put-field d at s h =
     let e : at + 1 + length s ≡ at + suc (length s) = omega arith in
-    rw (e, drop-set-lt (at + suc (length s)) d at v (omega arith), add-one, take-suc-set d at v h, append-assoc (take at d) (v ∷ []) s)
+    rw (e, drop-set-lt (at + suc (length s)) d at (length s) (omega arith), add-one, take-suc-set d at (length s) h, append-assoc (take at d) (length s ∷ []) s)
 
--- an id of which n bytes are in use
-module _ (p : ShortId) (n : ℕ) (long : length (p .bytes) ≡ 32) (e : n ≡ min (p .len) 32) where
-  id-length : length (idBytes p) ≡ n
-  id-length = used-length p long ∙ sym e
-
-  pub field-length : (at : ℕ) → at + 1 + n ≡ at + length (field (idBytes p))
-  unfolding field
-  field-length at = rw id-length (omega arith)
-
-  pub field-fits : (at room : ℕ) → at + length (field (idBytes p)) ≤ room → at + 1 + n ≤ room
-  field-fits at room h = let e = field-length at in omega arith
-
-  pub put-id : (d : List ℕ) (at : ℕ) → at < length d → put (set d at n) (at + 1) (take n (p .bytes)) ≡ put d at (field (idBytes p))
-  unfolding field
-  put-id d at h = rw (bytes-used p n long e, put-field d at n (idBytes p) h, id-length)
+pub field-length : (at : ℕ) (s : List ℕ) → at + 1 + length s ≡ at + length (field s)
+unfolding field
+field-length at s = omega arith
 
 -- a string right after one that was written
 put-put : (d : List ℕ) (at : ℕ) (s t : List ℕ) → at + length s ≤ length d → put (put d at s) (at + length s) t ≡ put d at (s ++ t)

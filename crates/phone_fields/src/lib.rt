@@ -1,11 +1,10 @@
 // Phones one behind the other in memory, as a saved record has them: written from a list, and read into one.
 use phones::PhoneList;
-use phones::ShortId;
 ghost use mathlib.Core.Path.{_≡_};
-ghost use Prim.Native.Nat.{_+_, _≤_, min};
+ghost use Prim.Native.Nat.{_+_, _≤_, _<_};
 ghost use lib.ListN.{length};
 ghost use Rattle.arrays.specs.Arrays.{put};
-ghost use Rattle.phones.specs.Phones.{idBytes, phonesOf};
+ghost use Rattle.phones.specs.Phones.{phonesOf};
 ghost use Rattle.phone_fields.specs.PhoneFields.{field, fields, readFields, noList, fieldsRead};
 ghost use Rattle.phone_fields.specs.Steps.{firstLength, onlyChecked};
 
@@ -23,22 +22,14 @@ pub struct FieldsRead {
     pub used: usize,
 }
 
-// A length, at most 32.
-fn clamp(n: usize) -> usize
-    ensures { λ r. ⌜ r ≡ min n 32 ⌝ }
-{
-    if n < 32 { n } else { 32 }
-}
-
 // Writes a phone at `at`, a length byte and its bytes, and tells the place after it.
-fn put_field(p: ShortId, out: &mut [u8], at: usize) -> usize
-    requires { ⌜ at + length (field (idBytes p)) ≤ length (now out) ⌝ }
-    ensures { λ r. ⌜ (r ≡ at + length (field (idBytes p))) × (now (out .exit) ≡ put (now (out .entry)) at (field (idBytes p))) ⌝ }
+fn put_field(p: &[u8], out: &mut [u8], at: usize) -> usize
+    requires { ⌜ (length (now p) < 256) × (at + length (field (now p)) ≤ length (now out)) ⌝ }
+    ensures { λ r. ⌜ (r ≡ at + length (field (now (p .entry)))) × (now (out .exit) ≡ put (now (out .entry)) at (field (now (p .entry)))) ⌝ }
 {
-    let n = clamp(p.len);
-    let bytes = p.bytes;
+    let n = p.len();
     out[at] = n as u8;
-    arrays::put(out, at + 1, &bytes[..n]);
+    arrays::put(out, at + 1, p);
     at + 1 + n
 }
 
@@ -47,15 +38,20 @@ pub fn put_fields(l: PhoneList, out: &mut [u8], at: usize) -> usize
     requires { ⌜ at + length (fields (phonesOf l)) ≤ length (now out) ⌝ }
     ensures { λ r. ⌜ (r ≡ at + length (fields (phonesOf l))) × (now (out .exit) ≡ put (now (out .entry)) at (fields (phonesOf l))) ⌝ }
 {
-    let n = phones::count(l);
-    let mut k = at;
+    let lens = l.lens;
+    let count = l.count;
+    let bytes: &[u8] = &l.bytes;
+    let n = phones::clamp(count);
+    let mut to = at;
+    let mut from = 0;
     let mut i = 0;
     while i < n {
-        let p = l.ids[i];
-        k = put_field(p, out, k);
+        let end = from + phones::part(lens[i], bytes.len() - from);
+        to = put_field(&bytes[from..end], out, to);
+        from = end;
         i += 1;
     }
-    k
+    to
 }
 
 // The length of the phone that what remains begins with; 0 if it is empty or not whole.
@@ -110,7 +106,9 @@ pub fn read_fields(count: usize, bytes: &[u8]) -> FieldsRead
     if 32 < count {
         return only_checked(count, bytes, bytes.len());
     }
-    let mut phones = phones::empty_list();
+    let mut packed = [0u8; 1024];
+    let mut lens = [0u8; 32];
+    let mut to = 0;
     let mut rest = bytes;
     let mut left = count;
     while 0 < left {
@@ -122,14 +120,18 @@ pub fn read_fields(count: usize, bytes: &[u8]) -> FieldsRead
             return only_checked(left, rest, bytes.len());
         }
         let end = 1 + len;
-        let made = phones::make_id(&rest[1..end]);
-        let id = made.id;
+        arrays::put(&mut packed, to, &rest[1..end]);
         let k = count - left;
-        phones.ids[k] = id;
-        phones.count = k + 1;
+        lens[k] = len as u8;
+        to += len;
         rest = &rest[end..];
         left -= 1;
     }
+    let phones = PhoneList {
+        bytes: packed,
+        lens,
+        count,
+    };
     FieldsRead {
         verdict: FieldsVerdict::Whole,
         phones,

@@ -1,63 +1,116 @@
--- Steps of a loop that builds a list: what is built so far comes from the first i ids.
-use mathlib.Core.Path.{_≡_, refl, _∙_}
-use mathlib.Core.Bool.{Bool, true, false, cond}
-use mathlib.Core.List.{List, [], _∷_, _++_, map, map-append, append-nil}
-use Prim.Native.Nat.{ℕ, _+_, _<_}
-use native.Mathlib.Numerals.{add-one}
+-- Ids laid down one after the other.
+use mathlib.Core.Path.{_≡_, refl, sym, _∙_}
+use mathlib.Core.List.{List, [], _∷_, _++_, map, map-append}
+use Prim.Native.Nat.{ℕ, _+_, _<_, _≤_, min}
 use native.Mathlib.Omega.{arith}
-use lib.ListN.{length, take, getD, set, length-append, length-map}
-use lib.Seq.{take-suc}
-use Rattle.arrays.proofs.Laws.{padded-push}
+use lib.ListN.{length, set, length-append, length-map, length-replicate, replicate, take}
+use Rattle.arrays.specs.Arrays.{padded, put}
+use Rattle.arrays.proofs.Laws.{padded-push, put-padded, put-length}
 use Rattle.phones.specs.declared.ShortId.{ShortId}
 use Rattle.phones.specs.declared.PhoneList.{PhoneList}
-use Rattle.phones.specs.Ids.{kept}
-use Rattle.phones.specs.Phones.{idBytes, idOf, listOf, phonesOf}
-use Rattle.phones.proofs.Laws.{noId, phones-at}
+use Rattle.phones.specs.declared.Measured.{Measured}
+use Rattle.phones.specs.Ids.{joined, pushed}
+use Rattle.phones.specs.Phones.{idBytes, idsIn, phonesOf, listOf, laid}
+use Rattle.phones.specs.Steps.{measuredOf}
+use Rattle.phones.proofs.Laws.{bytes-used, used-length, phones-length, joined-snoc, append-room, append-long}
+use Rattle.phones.proofs.Walk.{ids-bytes, ids-end}
 
--- an id stored at k, right after those that are there
-pub stored : (out : PhoneList) (q : ShortId) (ps : List (List ℕ)) (s : List ℕ) (k : ℕ) → out ≡ listOf ps → q ≡ idOf s → k ≡ length ps → k < 32
-    → _≡_ {A = PhoneList} (record { ids = set (out .ids) k q; count = k + 1 }) (listOf (ps ++ (s ∷ [])))
+-- the ids ps stand in these arrays, and there are `count` of them, which end at `to`
+pub record Built (b ns : List ℕ) (k e : ℕ) (ps : List (List ℕ)) : Type 0 where
+  pub bytes : b ≡ padded 1024 0 (joined ps)
+  pub lens : ns ≡ padded 32 0 (map length ps)
+  pub count : k ≡ length ps
+  pub to : e ≡ length (joined ps)
+  pub long : length b ≡ 1024
+
+pub built-none : Built (replicate 1024 0) (replicate 32 0) 0 0 []
+unfolding padded joined
+built-none = record { bytes = refl; lens = refl; count = refl; to = refl; long = refl }
+
+pub built-empty : (l : PhoneList) → l ≡ listOf [] → Built (l .bytes) (l .lens) (l .count) 0 []
+unfolding listOf padded joined
+built-empty l e = rw e built-none
+
+pub built-list : (bytes lens : List ℕ) (count to : ℕ) (ps : List (List ℕ)) → Built bytes lens count to ps
+    → _≡_ {A = PhoneList} (record { bytes = bytes; lens = lens; count = count }) (listOf ps)
 unfolding listOf
-stored out q ps s k e f g h =
-    let m : length (map idOf ps) ≡ length ps = length-map ps idOf in
-    let n : length (ps ++ (s ∷ [])) ≡ length ps + 1 = rw length-append in
-    rw (e, f, g, n, map-append, ← padded-push 32 (idOf []) (idOf s) (map idOf ps) (omega arith), m)
+built-list bytes lens count to ps b = rw (b .bytes, b .lens, b .count)
 
--- the count of a list that was made
-pub made-count : (out : PhoneList) (ps : List (List ℕ)) → out ≡ listOf ps → out .count ≡ length ps
-unfolding listOf
-made-count out ps e = rw e
+-- one length more
+pub lens-more : (lens : List ℕ) (k n : ℕ) (ps : List (List ℕ)) (p : List ℕ) → lens ≡ padded 32 0 (map length ps) → k ≡ length ps → k < 32 → n ≡ length p
+    → set lens k n ≡ padded 32 0 (map length (ps ++ (p ∷ [])))
+lens-more lens k n ps p e f h g =
+    let m : length (map length ps) ≡ length ps = length-map ps length in
+    rw (e, f, g, map-append, ← padded-push 32 0 (length p) (map length ps) (omega arith), m)
 
--- one id more is read
-pub take-more : (l : PhoneList) (i : ℕ) → i < length (phonesOf l) → take (i + 1) (phonesOf l) ≡ take i (phonesOf l) ++ (idBytes (getD (l .ids) i noId) ∷ [])
-take-more l i h = rw (add-one, take-suc (phonesOf l) i [] h, phones-at l i h)
+-- one id more
+pub built-more : (bytes lens : List ℕ) (k to n : ℕ) (ps : List (List ℕ)) (p : List ℕ) → Built bytes lens k to ps → k < 32 → to + n ≤ 1024 → n ≡ length p
+    → Built (put bytes to p) (set lens k n) (k + 1) (to + n) (ps ++ (p ∷ []))
+built-more bytes lens k to n ps p b h r g = record {
+  bytes = rw (b .bytes, b .to, put-padded 1024 0 (joined ps) p, joined-snoc);
+  lens = lens-more lens k n ps p (b .lens) (b .count) h g;
+  count = rw (length-append, b .count);
+  to = rw (joined-snoc, length-append, b .to, g);
+  long = put-length bytes to p (let l = b .long in omega arith) ∙ b .long;
+}
 
--- ---- kept
+zeros : padded {A = ℕ} 1024 0 [] ≡ replicate 1024 0
+unfolding padded
+zeros = refl
 
-pub kept-snoc : {A : Type 0} (f : A → Bool) (xs : List A) (x : A) → kept f (xs ++ (x ∷ [])) ≡ kept f xs ++ cond (f x) (x ∷ []) []
-unfolding kept
-kept-snoc f [] x = refl
-kept-snoc {A = A} f (y ∷ ys) x = rw (kept-snoc f ys x) (go (f y) (kept f ys) (cond (f x) (x ∷ []) []))
-  where
-    go : (t : Bool) (a b : List A) → cond t (y ∷ (a ++ b)) (a ++ b) ≡ cond t (y ∷ a) a ++ b
-    go true a b = refl
-    go false a b = refl
+-- ids copied all at once, with their lengths as they were measured
+pub built-copy : (ns b : List ℕ) (m : Measured) (k : ℕ) → length b ≡ 1024 → m ≡ measuredOf (idsIn ns b) → k ≡ length (idsIn ns b)
+    → Built (put (replicate 1024 0) 0 (take (m .end) b)) (m .lens) k (m .end) (idsIn ns b)
+built-copy ns b m k far e f =
+    let all : take (m .end) b ≡ joined (idsIn ns b) = rw e (ids-bytes ns b) in
+    let fits = ids-end ns b in
+    record {
+      bytes = rw (all, ← zeros) (put-padded 1024 0 [] (joined (idsIn ns b)));
+      lens = rw e;
+      count = f;
+      to = rw e;
+      long = rw all (put-length (replicate 1024 0) 0 (joined (idsIn ns b)) (omega (arith, length-replicate {A = ℕ} 1024 0)) ∙ length-replicate {A = ℕ} 1024 0);
+    }
 
--- where a loop that keeps stands, with a flag that was the test's value
+-- ---- an id put last: m is what was measured, k the number of ids, n the length of the id
+
 module _
-    (f : List ℕ → Bool)
-    (l out : PhoneList)
-    (i : ℕ)
-    (t : Bool)
-    (h : i < length (phonesOf l))
-    (inv : out ≡ listOf (kept f (take i (phonesOf l))))
-    (e : t ≡ f (idBytes (getD (l .ids) i noId))) where
-  next : kept f (take (i + 1) (phonesOf l)) ≡ kept f (take i (phonesOf l)) ++ cond t (idBytes (getD (l .ids) i noId) ∷ []) []
-  next = rw (take-more l i h, kept-snoc, e)
+    (l : PhoneList)
+    (p : ShortId)
+    (m : Measured)
+    (k n : ℕ)
+    (far : length (l .bytes) ≡ 1024)
+    (many : length (l .lens) ≡ 32)
+    (wide : length (p .bytes) ≡ 32)
+    (em : m ≡ measuredOf (idsIn (take (l .count) (l .lens)) (l .bytes)))
+    (ek : k ≡ min (l .count) 32)
+    (en : n ≡ min (p .len) 32)
+    (place : k < 32) where
+  count-is : k ≡ length (phonesOf l)
+  count-is = ek ∙ sym (phones-length l many)
 
-  pub keep-more : (q : ShortId) → out .count < 32 → q ≡ idOf (idBytes (getD (l .ids) i noId)) → t ≡ true
-      → _≡_ {A = PhoneList} (record { ids = set (out .ids) (out .count) q; count = out .count + 1 }) (listOf (kept f (take (i + 1) (phonesOf l))))
-  keep-more q r g w = stored out q (kept f (take i (phonesOf l))) _ (out .count) inv g (made-count out _ inv) r ∙ rw (next, w)
+  end-is : m .end ≡ length (joined (phonesOf l))
+  unfolding phonesOf
+  end-is = rw em
 
-  pub keep-less : t ≡ false → out ≡ listOf (kept f (take (i + 1) (phonesOf l)))
-  keep-less w = inv ∙ rw (next, w, append-nil)
+  length-is : n ≡ length (idBytes p)
+  length-is = en ∙ sym (used-length p wide)
+
+  pub push-long : 1024 < m .end + n → l ≡ laid l (pushed (idBytes p) (phonesOf l))
+  push-long h =
+      let a = count-is in
+      let b = end-is in
+      let c = length-is in
+      sym (append-long l (idBytes p) (omega arith) (omega arith))
+
+  pub push-built : m .end + n ≤ 1024
+      → _≡_ {A = PhoneList} (record { bytes = put (put (replicate 1024 0) 0 (take (m .end) (l .bytes))) (m .end) (take n (p .bytes)); lens = set (m .lens) k n; count = k + 1 })
+      (laid l (pushed (idBytes p) (phonesOf l)))
+  unfolding phonesOf
+  push-built h =
+      let a = count-is in
+      let b = end-is in
+      let c = length-is in
+      let copied = built-copy (take (l .count) (l .lens)) (l .bytes) m k far em count-is in
+      rw (bytes-used p n wide en)
+      (built-list _ _ _ _ _ (built-more _ _ _ _ n _ (idBytes p) copied place h length-is) ∙ sym (append-room l (idBytes p) (omega arith) (omega arith)))

@@ -1,18 +1,17 @@
 -- Laws of the definitions of specs/.
 use mathlib.Core.Path.{_≡_, refl, ap, _∙_}
-use mathlib.Core.List.{List, [], _∷_, _++_, map}
-use Prim.Native.Nat.{ℕ, zero, suc, _≤_, _<_, min}
+use mathlib.Core.List.{List, [], _∷_, _++_, map, append-assoc, append-nil}
+use Prim.Native.Nat.{ℕ, zero, suc, _+_, _-_, _≤_, _<_, min}
 use native.Mathlib.Nat.{zero-min, min-zero, suc-min-suc}
-use native.Mathlib.Omega.{arith}
-use borrow.Author.Tests.{lt-ltb}
-use lib.ListN.{length, take, getD, replicate, length-map, length-take, List·getD-map}
-use lib.Seq.{getD-take}
+use borrow.Author.Tests.{lt-ltb, le-ltb}
+use lib.ListN.{length, take, drop, replicate, length-map, length-take}
+use lib.Seq.{take-at, drop-at}
 use Rattle.arrays.specs.Arrays.{padded, put}
 use Rattle.arrays.proofs.Laws.{padded-take, put-padded}
 use Rattle.phones.specs.declared.ShortId.{ShortId}
 use Rattle.phones.specs.declared.PhoneList.{PhoneList}
-use Rattle.phones.specs.Ids.{becomes, pushed}
-use Rattle.phones.specs.Phones.{idBytes, idOf, phonesOf, listOf}
+use Rattle.phones.specs.Ids.{joined, roomFor, pushed}
+use Rattle.phones.specs.Phones.{idBytes, idOf, idsIn, phonesOf, listOf, laid}
 
 -- ---- what is read back
 
@@ -20,19 +19,21 @@ pub bytes-of-id : (s : List ℕ) → idBytes (idOf s) ≡ s
 unfolding idBytes idOf
 bytes-of-id s = padded-take 32 0 s
 
-bytes-of-ids : (ps : List (List ℕ)) → map idBytes (map idOf ps) ≡ ps
-bytes-of-ids [] = refl
-bytes-of-ids (p ∷ ps) = rw (bytes-of-id p, bytes-of-ids ps)
+ids-joined : (ps : List (List ℕ)) (x : List ℕ) → idsIn (map length ps) (joined ps ++ x) ≡ ps
+unfolding idsIn joined
+ids-joined [] x = refl
+ids-joined (p ∷ ps) x =
+    rw (append-assoc p (joined ps) x, take-at p (joined ps ++ x) (length p) refl, drop-at p (joined ps ++ x) (length p) refl, ids-joined ps x)
 
 pub phones-of-list : (ps : List (List ℕ)) → phonesOf (listOf ps) ≡ ps
-unfolding phonesOf listOf
+unfolding phonesOf listOf padded
 phones-of-list ps =
-    let m : length (map idOf ps) ≡ length ps = length-map ps idOf in
-    rw (← m, padded-take 32 (idOf []) (map idOf ps), bytes-of-ids ps)
+    let m : length (map length ps) ≡ length ps = length-map ps length in
+    rw (take-at (map length ps) (replicate (32 - length (map length ps)) 0) (length ps) m) (ids-joined ps _)
 
--- ---- the bytes and the ids in use
+-- ---- an id
 
-take-min : {A : Type 0} (n : ℕ) (xs : List A) → take (min n (length xs)) xs ≡ take n xs
+pub take-min : {A : Type 0} (n : ℕ) (xs : List A) → take (min n (length xs)) xs ≡ take n xs
 take-min zero xs = rw zero-min
 take-min (suc n) [] = rw min-zero
 take-min (suc n) (x ∷ xs) = rw (suc-min-suc, take-min n xs)
@@ -51,22 +52,36 @@ pub id-made : (b : List ℕ) (n : ℕ) (s : List ℕ) → b ≡ put (replicate 3
 unfolding idOf padded
 id-made b n s e f = rw (e, f, put-padded 32 0 [] s)
 
--- what a read past the end of an array of ids is
-abbrev pub noId : ShortId
-noId = record { bytes = []; len = 0 }
+-- ---- how many, and how long together
 
-pub phones-length : (l : PhoneList) → length (l .ids) ≡ 32 → length (phonesOf l) ≡ min (l .count) 32
+pub ids-length : (ns b : List ℕ) → length (idsIn ns b) ≡ length ns
+unfolding idsIn
+ids-length [] b = refl
+ids-length (n ∷ ns) b = ap suc (ids-length ns (drop n b))
+
+pub phones-length : (l : PhoneList) → length (l .lens) ≡ 32 → length (phonesOf l) ≡ min (l .count) 32
 unfolding phonesOf
-phones-length l h = rw (length-map, length-take, h)
+phones-length l h = rw (ids-length, length-take, h)
 
-pub phones-at : (l : PhoneList) (i : ℕ) → i < length (phonesOf l) → getD (phonesOf l) i [] ≡ idBytes (getD (l .ids) i noId)
-unfolding phonesOf idBytes
-phones-at l i h =
-    let k : length (map idBytes (take (l .count) (l .ids))) ≡ min (l .count) (length (l .ids)) = rw (length-map, length-take) in
-    List·getD-map idBytes (take (l .count) (l .ids)) i noId ∙ ap idBytes (getD-take (l .count) (l .ids) i noId (omega arith))
+pub joined-snoc : (ps : List (List ℕ)) (p : List ℕ) → joined (ps ++ (p ∷ [])) ≡ joined ps ++ p
+unfolding joined
+joined-snoc [] p = append-nil p
+joined-snoc (q ∷ ps) p = rw (joined-snoc ps p, append-assoc)
 
 -- ---- one id more
 
-pub push-room : (s : List ℕ) (ps : List (List ℕ)) → length ps < 32 → pushed s ps ≡ becomes (ps ++ (s ∷ []))
-unfolding pushed
-push-room s ps h = rw (lt-ltb _ _ h)
+module _ (l : PhoneList) (s : List ℕ) where
+  pub append-room : length (phonesOf l) < 32 → length (joined (phonesOf l)) + length s ≤ 1024 → laid l (pushed s (phonesOf l)) ≡ listOf (phonesOf l ++ (s ∷ []))
+  unfolding pushed roomFor
+  append-room h k = rw (lt-ltb _ _ h, le-ltb _ _ k)
+
+  pub append-full : 32 ≤ length (phonesOf l) → laid l (pushed s (phonesOf l)) ≡ l
+  unfolding pushed roomFor
+  append-full h = rw (le-ltb _ _ h)
+
+  pub append-long : length (phonesOf l) < 32 → 1024 < length (joined (phonesOf l)) + length s → laid l (pushed s (phonesOf l)) ≡ l
+  unfolding pushed roomFor
+  append-long h k = rw (lt-ltb _ _ h, lt-ltb _ _ k)
+
+  pub phones-append : length (phonesOf l) < 32 → length (joined (phonesOf l)) + length s ≤ 1024 → phonesOf (laid l (pushed s (phonesOf l))) ≡ phonesOf l ++ (s ∷ [])
+  phones-append h k = ap phonesOf (append-room h k) ∙ phones-of-list _

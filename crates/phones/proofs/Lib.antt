@@ -1,8 +1,10 @@
 pub mod Laws
+pub mod Walk
 pub mod Search
 pub mod Build
-pub mod Removal
+pub mod Marks
 pub mod Counts
+pub mod Packed
 pub mod Range
 pub mod Members
 pub mod Owned

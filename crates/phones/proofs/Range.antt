@@ -1,19 +1,19 @@
 -- Lists in range: which are so, and that what the functions make of them is so too.
-use mathlib.Core.Path.{_≡_, refl}
-use mathlib.Core.Bool.{Bool, true, false, cond, not, false≢true, true≢false}
-use mathlib.Core.List.{List, [], _∷_, _++_, map}
-use Prim.Native.Nat.{ℕ, zero, suc, _≤_}
+use mathlib.Core.Path.{_≡_, refl, _∙_}
+use mathlib.Core.Bool.{Bool, true, false, cond, not, _&&_}
+use mathlib.Core.List.{List, [], _∷_, _++_}
+use Prim.Native.Nat.{ℕ, zero, suc, _+_, _≤_}
 use native.Mathlib.Omega.{arith}
-use borrow.Author.Tests.{le-ltb, ltb-true, ltb-false, not-true}
+use borrow.Author.Tests.{le-ltb, ltb-true, ltb-false}
 use lib.Dec.{ltb}
-use lib.ListN.{length, take, getD, length-append, length-map, length-take}
+use lib.ListN.{length, getD, length-append}
 use Rattle.arrays.specs.Arrays.{sameBytes}
-use Rattle.arrays.proofs.Laws.{padded-take}
-use Rattle.phones.specs.declared.ShortId.{ShortId}
 use Rattle.phones.specs.declared.PhoneList.{PhoneList}
-use Rattle.phones.specs.Ids.{someOf, kept, removeFirst, removeAll, retainIn, stays, becomes, pushed}
-use Rattle.phones.specs.Phones.{idBytes, idOf, tooLong, idInRange, phonesOf, listOf, laid, allInRange, listInRange}
+use Rattle.phones.specs.Ids.{someOf, kept, joined, removeFirst, removeAll, retainIn, roomFor, pushed, stays, becomes}
+use Rattle.phones.specs.Phones.{idOf, tooLong, idInRange, phonesOf, listOf, listInRange, laid}
+use Rattle.phones.proofs.Search.{none-cons}
 use Rattle.phones.proofs.Counts.{kept-length, first-length}
+use Rattle.phones.proofs.Packed.{fits-of-list, fits-parts, parts-fit, range-fits}
 
 -- each of these strings fits an id
 abbrev pub Short : List (List ℕ) → Type 0
@@ -53,42 +53,26 @@ pub id-range : (s : List ℕ) → length s ≤ 32 → idInRange (idOf s) ≡ tru
 unfolding idInRange tooLong idOf
 id-range s h = rw (le-ltb _ _ h)
 
-ids-range : (ps : List (List ℕ)) → Short ps → someOf tooLong (map idOf ps) ≡ false
-unfolding someOf tooLong idOf
-ids-range [] h = refl
-ids-range (p ∷ ps) h = rw (le-ltb _ _ (h zero)) (ids-range ps (λ i. h (suc i)))
+none-long : (ps : List (List ℕ)) → Short ps → someOf (λ (p : List ℕ). ltb 32 (length p)) ps ≡ false
+unfolding someOf
+none-long [] h = refl
+none-long (p ∷ ps) h = rw (le-ltb _ _ (h zero)) (none-long ps (λ i. h (suc i)))
+
+all-short : (ps : List (List ℕ)) → someOf (λ (p : List ℕ). ltb 32 (length p)) ps ≡ false → Short ps
+all-short [] h = λ i. omega arith
+all-short (p ∷ ps) h =
+    let k = none-cons (λ (q : List ℕ). ltb 32 (length q)) p ps h in
+    short-cons p ps (ltb-false _ _ (k .0)) (all-short ps (k .1))
 
 -- a canonical list of at most 32 ids that fit
 pub list-range : (ps : List (List ℕ)) → length ps ≤ 32 → Short ps → listInRange (listOf ps) ≡ true
-unfolding listInRange allInRange listOf
-list-range ps h k =
-    let m : length (map idOf ps) ≡ length ps = length-map ps idOf in
-    rw (le-ltb _ _ h, ← m, padded-take 32 (idOf []) (map idOf ps), ids-range ps k)
-
-range-parts : (l : PhoneList) → listInRange l ≡ true → (l .count ≤ 32) × (someOf tooLong (take (l .count) (l .ids)) ≡ false)
-unfolding listInRange allInRange
-range-parts l h = go (ltb 32 (l .count)) refl h
-  where
-    go : (t : Bool) → ltb 32 (l .count) ≡ t → cond t false (not (someOf tooLong (take (l .count) (l .ids)))) ≡ true → (l .count ≤ 32) × (someOf tooLong (take (l .count) (l .ids)) ≡ false)
-    go true e q = absurd (false≢true q)
-    go false e q = (ltb-false _ _ e, not-true _ q)
+list-range ps h k = fits-of-list ps ∙ parts-fit ps h (none-long ps k)
 
 pub range-count : (l : PhoneList) → listInRange l ≡ true → length (phonesOf l) ≤ 32
-unfolding phonesOf
-range-count l h = let k = range-parts l h .0 in rw (length-map, length-take) (omega arith)
-
-bytes-short : (xs : List ShortId) → someOf tooLong xs ≡ false → Short (map idBytes xs)
-unfolding someOf tooLong idBytes
-bytes-short [] h = λ i. omega arith
-bytes-short (x ∷ xs) h = go (ltb 32 (x .len)) refl h (λ k. bytes-short xs k)
-  where
-    go : (t : Bool) → ltb 32 (x .len) ≡ t → cond t true (someOf tooLong xs) ≡ false → (someOf tooLong xs ≡ false → Short (map idBytes xs)) → Short (idBytes x ∷ map idBytes xs)
-    go true e q rest = absurd (true≢false q)
-    go false e q rest = let k : x .len ≤ 32 = ltb-false _ _ e in short-cons (idBytes x) (map idBytes xs) (rw length-take (omega arith)) (rest q)
+range-count l h = fits-parts (phonesOf l) (range-fits l h) .0
 
 pub range-short : (l : PhoneList) → listInRange l ≡ true → Short (phonesOf l)
-unfolding phonesOf
-range-short l h = bytes-short (take (l .count) (l .ids)) (range-parts l h .1)
+range-short l h = all-short (phonesOf l) (fits-parts (phonesOf l) (range-fits l h) .1)
 
 -- ---- what is made of a list in range
 
@@ -116,9 +100,10 @@ range-first s l h =
     list-range (removeFirst s (phonesOf l)) (omega arith) (short-first s (phonesOf l) (range-short l h))
 
 pub range-append : (l : PhoneList) (s : List ℕ) → listInRange l ≡ true → length s ≤ 32 → listInRange (laid l (pushed s (phonesOf l))) ≡ true
-unfolding pushed
-range-append l s h k = go (ltb (length (phonesOf l)) 32) refl
+unfolding pushed roomFor
+range-append l s h k = go (ltb (length (phonesOf l)) 32) (not (ltb 1024 (length (joined (phonesOf l)) + length s))) refl
   where
-    go : (t : Bool) → ltb (length (phonesOf l)) 32 ≡ t → listInRange (laid l (cond t (becomes (phonesOf l ++ (s ∷ []))) stays)) ≡ true
-    go true e = list-range (phonesOf l ++ (s ∷ [])) (rw length-append (omega (arith, ltb-true (length (phonesOf l)) 32 e))) (short-snoc s (phonesOf l) k (range-short l h))
-    go false e = h
+    go : (t u : Bool) → ltb (length (phonesOf l)) 32 ≡ t → listInRange (laid l (cond (t && u) (becomes (phonesOf l ++ (s ∷ []))) stays)) ≡ true
+    go true true e = list-range (phonesOf l ++ (s ∷ [])) (rw length-append (omega (arith, ltb-true (length (phonesOf l)) 32 e))) (short-snoc s (phonesOf l) k (range-short l h))
+    go true false e = h
+    go false u e = h

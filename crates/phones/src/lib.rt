@@ -1,15 +1,16 @@
-// Phone ids of at most 32 bytes, and the list of at most 32 of them, by value. What an array holds past a length or a
-// count is not looked at, and a length or a count above 32 counts as 32. A list that a function makes is canonical: the
-// ids in their order, then empty ids, zeros past each length.
+// Phone ids of at most 32 bytes, and the list of at most 32 of them, packed: the ids end to end, their lengths beside them.
+// What stands past a length or a count is not looked at, and what would run past an array is cut at its end. A list that a
+// function makes is canonical: zeros past the last id and past the last length.
 ghost use mathlib.Core.Path.{_≡_};
-ghost use mathlib.Core.Bool.{false, cond};
-ghost use mathlib.Core.List.{[]};
-ghost use Prim.Native.Nat.{min};
-ghost use lib.ListN.{length, getD};
-ghost use Rattle.arrays.specs.Arrays.{sameBytes};
-ghost use Rattle.phones.specs.Ids.{anyIn, removeFirst, removeAll, retainIn, pushed};
-ghost use Rattle.phones.specs.Phones.{idBytes, idOf, madeId, idInRange, phonesOf, listOf, laid, listInRange};
+ghost use mathlib.Core.Bool.{not};
+ghost use mathlib.Core.List.{List, []};
+ghost use Prim.Native.Nat.{ℕ, min, _+_, _<_, _≤_};
+ghost use lib.ListN.{length, take};
+ghost use Rattle.arrays.specs.Arrays.{put, sameBytes};
+ghost use Rattle.phones.specs.Ids.{anyIn, keepWhere, removeFirst, removeAll, retainIn, pushed};
 ghost use Rattle.phones.specs.Ids as Ids;
+ghost use Rattle.phones.specs.Phones.{idBytes, idOf, madeId, idInRange, idsIn, phonesOf, listOf, listInRange, laid};
+ghost use Rattle.phones.specs.Steps.{firstAt, marked, allBut, measuredOf};
 
 // An id of at most 32 bytes: a phone's, or a method's.
 pub struct ShortId {
@@ -18,7 +19,8 @@ pub struct ShortId {
 }
 
 pub struct PhoneList {
-    pub ids: [ShortId; 32],
+    pub bytes: [u8; 1024],
+    pub lens: [u8; 32],
     pub count: usize,
 }
 
@@ -28,8 +30,14 @@ pub struct MadeId {
     pub id: ShortId,
 }
 
+// The lengths of some ids, and where they end.
+struct Measured {
+    lens: [u8; 32],
+    end: usize,
+}
+
 // A length or a count, at most 32.
-fn clamp(n: usize) -> usize
+pub fn clamp(n: usize) -> usize
     ensures { λ r. ⌜ r ≡ min n 32 ⌝ }
 {
     if n < 32 { n } else { 32 }
@@ -86,13 +94,24 @@ pub fn id_in_range(p: ShortId) -> bool
     if 32 < p.len { false } else { true }
 }
 
+// How long the next id of a list is: its length `n`, cut where only `rest` bytes are left. It still fits a byte.
+pub fn part(n: u8, rest: usize) -> usize
+    ensures { λ r. ⌜ (r ≡ min n rest) × (r < 256) ⌝ }
+{
+    let len = n as usize;
+    if len < rest { len } else { rest }
+}
+
 pub fn empty_list() -> PhoneList
     ensures { λ r. ⌜ r ≡ listOf [] ⌝ }
 {
-    let bytes = [0u8; 32];
-    let none = ShortId { bytes, len: 0 };
-    let ids = [none; 32];
-    PhoneList { ids, count: 0 }
+    let bytes = [0u8; 1024];
+    let lens = [0u8; 32];
+    PhoneList {
+        bytes,
+        lens,
+        count: 0,
+    }
 }
 
 pub fn count(l: PhoneList) -> usize
@@ -101,161 +120,273 @@ pub fn count(l: PhoneList) -> usize
     clamp(l.count)
 }
 
-// The id at place `i`, empty past the last one.
-pub fn phone_at(l: PhoneList, i: usize) -> ShortId
-    ensures { λ r. ⌜ r ≡ idOf (getD (phonesOf l) i []) ⌝ }
+// The place of the first id that is `s`; the number of ids if there is none.
+fn first_at(bytes: &[u8], lens: [u8; 32], count: usize, s: &[u8]) -> usize
+    ensures { λ r. ⌜ r ≡ firstAt (now (s .entry)) (idsIn (take count lens) (now (bytes .entry))) ⌝ }
 {
-    let n = clamp(l.count);
-    if i < n {
-        let p = l.ids[i];
-        return clean(p);
+    let n = clamp(count);
+    let mut at = 0;
+    let mut i = 0;
+    while i < n {
+        let end = at + part(lens[i], bytes.len() - at);
+        if arrays::same_bytes(&bytes[at..end], s) {
+            return i;
+        }
+        at = end;
+        i += 1;
     }
-    let bytes = [0u8; 32];
-    ShortId { bytes, len: 0 }
+    i
+}
+
+// Whether the byte string `s` is one of the ids.
+fn found(bytes: &[u8], lens: [u8; 32], count: usize, s: &[u8]) -> bool
+    ensures { λ r. ⌜ r ≡ Ids.contains (now (s .entry)) (idsIn (take count lens) (now (bytes .entry))) ⌝ }
+{
+    first_at(bytes, lens, count, s) < clamp(count)
 }
 
 // Whether the byte string `s` is in the list.
 pub fn contains(l: PhoneList, s: &[u8]) -> bool
     ensures { λ r. ⌜ r ≡ Ids.contains (now (s .entry)) (phonesOf l) ⌝ }
 {
-    let n = clamp(l.count);
-    let mut at = 0;
-    while at < n {
-        let p = l.ids[at];
-        if id_is(p, s) {
-            return true;
-        }
-        at += 1;
-    }
-    false
+    let lens = l.lens;
+    found(&l.bytes, lens, l.count, s)
 }
 
 // Whether an id is in the list.
 pub fn contains_id(l: PhoneList, p: ShortId) -> bool
     ensures { λ r. ⌜ r ≡ Ids.contains (idBytes p) (phonesOf l) ⌝ }
 {
+    let lens = l.lens;
     let bytes = p.bytes;
     let n = clamp(p.len);
-    contains(l, &bytes[..n])
+    found(&l.bytes, lens, l.count, &bytes[..n])
 }
 
 // Whether some id of the list is in the other one.
 pub fn any_in(l: PhoneList, other: PhoneList) -> bool
     ensures { λ r. ⌜ r ≡ anyIn (phonesOf other) (phonesOf l) ⌝ }
 {
-    let n = clamp(l.count);
+    let lens = l.lens;
+    let count = l.count;
+    let bytes: &[u8] = &l.bytes;
+    let their_lens = other.lens;
+    let their_count = other.count;
+    let theirs: &[u8] = &other.bytes;
+    let n = clamp(count);
+    let mut at = 0;
     let mut i = 0;
     while i < n {
-        let p = l.ids[i];
-        if contains_id(other, p) {
+        let end = at + part(lens[i], bytes.len() - at);
+        if found(theirs, their_lens, their_count, &bytes[at..end]) {
             return true;
         }
+        at = end;
         i += 1;
     }
     false
 }
 
-// Whether an id goes: it is `s`, and not all that should go are gone.
-fn goes(done: bool, p: ShortId, s: &[u8]) -> bool
-    ensures { λ r. ⌜ r ≡ cond done false (sameBytes (idBytes p) (now (s .entry))) ⌝ }
+// Writes `src` among the bytes of a list.
+fn put_in(dst: &mut [u8; 1024], at: usize, src: &[u8])
+    requires { ⌜ at + length (now src) ≤ length (now dst) ⌝ }
+    ensures { λ _. ⌜ now (dst .exit) ≡ put (now (dst .entry)) at (now (src .entry)) ⌝ }
 {
-    if done {
-        return false;
-    }
-    id_is(p, s)
+    arrays::put(dst, at, src);
 }
 
-// The list without the first id that is `s`, or without every one.
-fn removed(l: PhoneList, s: &[u8], once: bool) -> PhoneList
-    ensures { λ r. ⌜ r ≡ listOf (cond once (removeFirst (now (s .entry)) (phonesOf l)) (removeAll (now (s .entry)) (phonesOf l))) ⌝ }
+// The ids that are marked: they move together.
+fn compacted(bytes: &[u8], lens: [u8; 32], count: usize, keep: [bool; 32]) -> PhoneList
+    requires { ⌜ length (now bytes) ≤ 1024 ⌝ }
+    ensures { λ r. ⌜ r ≡ listOf (keepWhere keep (idsIn (take count lens) (now (bytes .entry)))) ⌝ }
 {
-    let n = clamp(l.count);
+    let n = clamp(count);
     let mut out = empty_list();
-    let mut done = false;
+    let mut to = 0;
+    let mut at = 0;
     let mut i = 0;
     while i < n {
-        let p = l.ids[i];
+        let place = i;
         i += 1;
-        if goes(done, p, s) {
-            done = once;
-            continue;
+        let len = part(lens[place], bytes.len() - at);
+        let from = at;
+        let end = at + len;
+        at = end;
+        if keep[place] {
+            put_in(&mut out.bytes, to, &bytes[from..end]);
+            let k = out.count;
+            out.lens[k] = len as u8;
+            out.count = k + 1;
+            to += len;
         }
-        let k = out.count;
-        let q = clean(p);
-        out.ids[k] = q;
-        out.count = k + 1;
     }
     out
+}
+
+// The list without the ids that are not marked.
+pub fn keep_where(l: PhoneList, keep: [bool; 32]) -> PhoneList
+    ensures { λ r. ⌜ r ≡ listOf (keepWhere keep (phonesOf l)) ⌝ }
+{
+    let lens = l.lens;
+    compacted(&l.bytes, lens, l.count, keep)
+}
+
+// Every place but `i`.
+fn all_but(i: usize) -> [bool; 32]
+    ensures { λ r. ⌜ r ≡ allBut i ⌝ }
+{
+    let mut keep = [true; 32];
+    if i < 32 {
+        keep[i] = false;
+        return keep;
+    }
+    keep
 }
 
 // The list without the first id that is `s`.
 pub fn remove_first(l: PhoneList, s: &[u8]) -> PhoneList
     ensures { λ r. ⌜ r ≡ listOf (removeFirst (now (s .entry)) (phonesOf l)) ⌝ }
 {
-    removed(l, s, true)
+    let lens = l.lens;
+    let i = first_at(&l.bytes, lens, l.count, s);
+    let keep = all_but(i);
+    compacted(&l.bytes, lens, l.count, keep)
+}
+
+// Which ids are not `s`.
+fn others(bytes: &[u8], lens: [u8; 32], count: usize, s: &[u8]) -> [bool; 32]
+    ensures { λ r. ⌜ r ≡ marked (λ (p : List ℕ). not (sameBytes p (now (s .entry)))) (idsIn (take count lens) (now (bytes .entry))) ⌝ }
+{
+    let n = clamp(count);
+    let mut keep = [false; 32];
+    let mut at = 0;
+    let mut i = 0;
+    while i < n {
+        let end = at + part(lens[i], bytes.len() - at);
+        keep[i] = !arrays::same_bytes(&bytes[at..end], s);
+        at = end;
+        i += 1;
+    }
+    keep
 }
 
 // The list without every id that is `s`.
 pub fn remove_all(l: PhoneList, s: &[u8]) -> PhoneList
     ensures { λ r. ⌜ r ≡ listOf (removeAll (now (s .entry)) (phonesOf l)) ⌝ }
 {
-    removed(l, s, false)
+    let lens = l.lens;
+    let keep = others(&l.bytes, lens, l.count, s);
+    compacted(&l.bytes, lens, l.count, keep)
+}
+
+// Which ids are among those of the other list.
+fn shared(
+    bytes: &[u8],
+    lens: [u8; 32],
+    count: usize,
+    theirs: &[u8],
+    their_lens: [u8; 32],
+    their_count: usize,
+) -> [bool; 32]
+    ensures { λ r. ⌜ r ≡ marked (λ (p : List ℕ). Ids.contains p (idsIn (take «their_count» «their_lens») (now (theirs .entry)))) (idsIn (take count lens) (now (bytes .entry))) ⌝ }
+{
+    let n = clamp(count);
+    let mut keep = [false; 32];
+    let mut at = 0;
+    let mut i = 0;
+    while i < n {
+        let end = at + part(lens[i], bytes.len() - at);
+        keep[i] = found(theirs, their_lens, their_count, &bytes[at..end]);
+        at = end;
+        i += 1;
+    }
+    keep
 }
 
 // The ids of the list that are in the other one.
 pub fn retain_in(l: PhoneList, other: PhoneList) -> PhoneList
     ensures { λ r. ⌜ r ≡ listOf (retainIn (phonesOf other) (phonesOf l)) ⌝ }
 {
-    let n = clamp(l.count);
-    let mut out = empty_list();
+    let lens = l.lens;
+    let their_lens = other.lens;
+    let keep = shared(
+        &l.bytes,
+        lens,
+        l.count,
+        &other.bytes,
+        their_lens,
+        other.count,
+    );
+    compacted(&l.bytes, lens, l.count, keep)
+}
+
+// The lengths as they were cut, zeros past them, and where the ids end.
+fn measure(bytes: &[u8], lens: [u8; 32], count: usize) -> Measured
+    ensures { λ r. ⌜ r ≡ measuredOf (idsIn (take count lens) (now (bytes .entry))) ⌝ }
+{
+    let n = clamp(count);
+    let mut cut = [0u8; 32];
+    let mut at = 0;
     let mut i = 0;
     while i < n {
-        let p = l.ids[i];
+        let len = part(lens[i], bytes.len() - at);
+        cut[i] = len as u8;
+        at += len;
         i += 1;
-        let keep = contains_id(other, p);
-        if keep {
-            let k = out.count;
-            let q = clean(p);
-            out.ids[k] = q;
-            out.count = k + 1;
-        }
     }
-    out
+    Measured { lens: cut, end: at }
 }
 
 // The same ids in canonical form.
 pub fn canonical(l: PhoneList) -> PhoneList
     ensures { λ r. ⌜ r ≡ listOf (phonesOf l) ⌝ }
 {
-    let n = clamp(l.count);
-    let mut out = empty_list();
-    let mut i = 0;
-    while i < n {
-        let p = l.ids[i];
-        let q = clean(p);
-        out.ids[i] = q;
-        i += 1;
-        out.count = i;
+    let old_lens = l.lens;
+    let old_count = l.count;
+    let old: &[u8] = &l.bytes;
+    let m = measure(old, old_lens, old_count);
+    let end = m.end;
+    let lens = m.lens;
+    let mut bytes = [0u8; 1024];
+    arrays::put(&mut bytes, 0, &old[..end]);
+    PhoneList {
+        bytes,
+        lens,
+        count: clamp(old_count),
     }
-    out
 }
 
-// The list with one id more; a full list stays as it is.
+// The list with one id more, if there is room.
 pub fn append(l: PhoneList, p: ShortId) -> PhoneList
     ensures { λ r. ⌜ r ≡ laid l (pushed (idBytes p) (phonesOf l)) ⌝ }
 {
-    let k = clamp(l.count);
+    let old_lens = l.lens;
+    let old_count = l.count;
+    let k = clamp(old_count);
     if k < 32 {
-        let mut out = canonical(l);
-        let q = clean(p);
-        out.ids[k] = q;
-        out.count = k + 1;
-        return out;
+        let m = measure(&l.bytes, old_lens, old_count);
+        let end = m.end;
+        let n = clamp(p.len);
+        if 1024 < end + n {
+            return l;
+        }
+        let old: &[u8] = &l.bytes;
+        let added = p.bytes;
+        let mut bytes = [0u8; 1024];
+        arrays::put(&mut bytes, 0, &old[..end]);
+        arrays::put(&mut bytes, end, &added[..n]);
+        let mut lens = m.lens;
+        lens[k] = n as u8;
+        return PhoneList {
+            bytes,
+            lens,
+            count: k + 1,
+        };
     }
     l
 }
 
-// Whether the count, and the length of each id in use, are at most 32.
+// Whether the count, and each length in use, are at most 32.
 pub fn list_in_range(l: PhoneList) -> bool
     ensures { λ r. ⌜ r ≡ listInRange l ⌝ }
 {
@@ -263,10 +394,10 @@ pub fn list_in_range(l: PhoneList) -> bool
     if 32 < count {
         return false;
     }
+    let lens = l.lens;
     let mut i = 0;
     while i < count {
-        let p = l.ids[i];
-        if 32 < p.len {
+        if 32 < lens[i] {
             return false;
         }
         i += 1;

@@ -7,17 +7,9 @@ use lib.ListN.{length, set, replicate, length-append}
 use lib.Seq.{append-snoc}
 use Rattle.arrays.specs.Arrays.{padded, put}
 use Rattle.arrays.proofs.Laws.{padded-push, put-padded}
-use Rattle.phones.specs.declared.PhoneList.{PhoneList}
-use Rattle.phones.specs.Phones.{phonesOf}
-use Rattle.phones.proofs.Range.{Short}
 use Rattle.phone_fields.specs.PhoneFields.{fields}
-use Rattle.phone_fields.proofs.Laws.{fields-length}
 use Rattle.saved_record.specs.declared.SavedRecord.{SavedRecord}
 use Rattle.saved_record.specs.SavedRecord.{encoded, recordOf}
-
--- there is room for the phones of a list
-pub list-fits : (l : PhoneList) → length (phonesOf l) ≤ 32 → Short (phonesOf l) → 34 + length (fields (phonesOf l)) ≤ 1090
-list-fits l few short = let h = fields-length (phonesOf l) short in omega arith
 
 -- ---- the bytes before the phones
 

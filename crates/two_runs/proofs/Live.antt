@@ -7,8 +7,8 @@ use Prim.Native.Nat.{ℕ}
 use lib.ListN.{length, drop, replicate}
 use Rattle.arrays.specs.Arrays.{padded, sameBytes}
 use Rattle.phones.specs.declared.PhoneList.{PhoneList}
-use Rattle.phones.specs.Ids.{contains, someOf}
-use Rattle.phones.specs.Phones.{allInRange, idBytes, idInRange, idOf, listInRange, listOf, phonesOf, tooLong}
+use Rattle.phones.specs.Ids.{contains, joined, someOf}
+use Rattle.phones.specs.Phones.{idBytes, idInRange, idOf, idsIn, listInRange, listOf, phonesOf, tooLong}
 use Rattle.draw.specs.Draw.{digits, drawLimit, drawn, firstBelow, group}
 use Rattle.text.specs.Utf8.{decode, encode, encodeAll}
 use Rattle.text.specs.Text.{isText, right, trim, trimFront, trimmed, white}
@@ -147,7 +147,7 @@ pub record Examples : Type 0 where
   pub tallied : sessions 3 0 ready three ≡ tallies
 
 pub examples : Examples
-unfolding padded sameBytes allInRange contains idBytes idInRange idOf listInRange listOf phonesOf someOf tooLong digits drawLimit drawn firstBelow group decode encode encodeAll Utf8.within isText right trim trimFront trimmed white Range.within Range.settingsFit Range.allOf Range.printable Range.methodFits Range.allFit Range.methodsIn Range.methodsFit Running.methodAt Running.cleanMethod Running.inProgress Running.codeInProgress Range.triesFit Range.sessionFits Range.windowFits Range.coreFits Range.inRange View.view Replies.reply Replies.notified Replies.finish Policy.fingerprintConfirmed Policy.isIdentified Store.isFull Times.saturatingAdd Times.secondsTo Session.secondsOf Session.replyOf Session.endedAs Session.triedOnce Session.isOf Session.lostReadWrite Session.noteAt Session.cannotGoOn Session.lapseOf Session.placeFrom Session.placeOf checked Validation.endSession Validation.runsFor Validation.startChecks Validation.newSession Validation.begin Validation.startAt Validation.start Validation.succeededCore Validation.succeed Validation.failedCore Validation.triedCore Validation.wrong Validation.rightCode Validation.judge Validation.submitted Validation.submit New.newMethods New.newCore Gate.saying Gate.served Gate.says Gate.left Gate.gives Gate.step begins judgedWrong blanked hideGate codeRuns
+unfolding padded sameBytes contains idBytes idInRange idOf idsIn joined listInRange listOf phonesOf someOf tooLong digits drawLimit drawn firstBelow group decode encode encodeAll Utf8.within isText right trim trimFront trimmed white Range.within Range.settingsFit Range.allOf Range.printable Range.methodFits Range.allFit Range.methodsIn Range.methodsFit Running.methodAt Running.cleanMethod Running.inProgress Running.codeInProgress Range.triesFit Range.sessionFits Range.windowFits Range.coreFits Range.inRange View.view Replies.reply Replies.notified Replies.finish Policy.fingerprintConfirmed Policy.isIdentified Store.isFull Times.saturatingAdd Times.secondsTo Session.secondsOf Session.replyOf Session.endedAs Session.triedOnce Session.isOf Session.lostReadWrite Session.noteAt Session.cannotGoOn Session.lapseOf Session.placeFrom Session.placeOf checked Validation.endSession Validation.runsFor Validation.startChecks Validation.newSession Validation.begin Validation.startAt Validation.start Validation.succeededCore Validation.succeed Validation.failedCore Validation.triedCore Validation.wrong Validation.rightCode Validation.judge Validation.submitted Validation.submit New.newMethods New.newCore Gate.saying Gate.served Gate.says Gate.left Gate.gives Gate.step begins judgedWrong blanked hideGate codeRuns
 examples = record {
   two =
       next (starts phone method 1_000 random-1234 random-0007 (λ d. (refl, refl)))

@@ -19,7 +19,7 @@ use Rattle.state.specs.View.{Store, View, Listing, view, laidPhones}
 use Rattle.range.specs.Range.{inRange}
 use Rattle.validation.specs.Calls.{submit}
 use Rattle.answers.specs.Query.{Reply, plain}
-use Rattle.definition.specs.Gate.{Call, Says, saying, asked, served, ofSession, ofLists, says, fullFor, nothing, left, gives, step, after}
+use Rattle.definition.specs.Gate.{Call, Says, saying, asked, served, ofSession, ofLists, says, fullFor, nothing, left, gives, packed, step, after}
 use Rattle.two_runs.specs.Demand.{blanked, hideGate, hideChallenge, hideSignals, seen, run, codeRuns, isRight, comesToDraw, judges, Alike, starts, submits, news, sessionCalls, listCalls, approvals, coreCalls, asks, TwoRuns, end, next, EqualButDigits, AlikeGates, StayAlike, over, place, LookAlike}
 use Rattle.two_runs.proofs.Digits.{blanked-drawn}
 use Rattle.two_runs.proofs.Turns.{Shown, Marked, Fit, tries-fit, turn-core, turn-approve, turn-session}
@@ -34,7 +34,7 @@ recodedGate g other = record { core = g .core; phones = g .phones; code = other 
 
 -- what is said looks alike, and without a running CodeEntry session there are no digits to differ
 record Twin (g : Gate) (other : List ℕ) (s t : Says) : Type 0 where
-  look : seen (gives g s) ≡ seen (gives g t)
+  look : seen (gives packed g s) ≡ seen (gives packed g t)
   stay : (codeRuns (g .core) ≡ false → g .code ≡ other) → codeRuns (s .core) ≡ false → s .code ≡ t .code
 
 module _ (g : Gate) (other : List ℕ) (e : blanked (g .core .settings .digits) (g .code) ≡ blanked (g .core .settings .digits) other) where
@@ -47,7 +47,7 @@ module _ (g : Gate) (other : List ℕ) (e : blanked (g .core .settings .digits) 
   twin-asked : (r r′ : Reply (List (List ℕ))) → SameReply r r′ → Twin g other (asked here r) (asked there r′)
   unfolding seen gives left hideGate view
   twin-asked r r′ a = record {
-    look = λ i. record { numbered = a .0 i; answer = a .1 i; signals = seen (gives g (asked here r)) .signals; lent = nothing; gate = record { core = g .core; phones = g .phones; code = e i } };
+    look = λ i. record { numbered = a .0 i; answer = a .1 i; signals = seen (gives packed g (asked here r)) .signals; lent = nothing; gate = record { core = g .core; phones = g .phones; code = e i } };
     stay = λ held r. held r;
   }
 
@@ -65,7 +65,7 @@ module _ (g : Gate) (other : List ℕ) (e : blanked (g .core .settings .digits) 
     look = λ i. record {
       numbered = numbered (x .answer);
       answer = plain (x .answer);
-      signals = seen (gives g (ofLists here x)) .signals;
+      signals = seen (gives packed g (ofLists here x)) .signals;
       lent = nothing;
       gate = record { core = g .core; phones = laidPhones (g .phones) (x .paired) (x .store); code = e i };
     };
@@ -98,7 +98,7 @@ module _ (g : Gate) (other : List ℕ) (e : blanked (g .core .settings .digits) 
           look = λ i. record {
             numbered = numbered (o .answer);
             answer = plain (o .answer);
-            signals = sending (showing (s i) (o .raised)) (gives g (saying here drew o b x) .signals .validations);
+            signals = sending (showing (s i) (o .raised)) (gives packed g (saying here drew o b x) .signals .validations);
             lent = nothing;
             gate = record { core = o .core; phones = laidPhones (g .phones) stays x; code = c i };
           };

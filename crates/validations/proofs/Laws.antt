@@ -2,14 +2,15 @@
 use mathlib.Core.Path.{_≡_, refl, sym, ap, _∙_}
 use mathlib.Core.List.{List, [], _∷_, _++_}
 use mathlib.Core.Bool.{false}
-use Prim.Native.Nat.{ℕ}
+use Prim.Native.Nat.{ℕ, _≤_}
 use native.Mathlib.Omega.{arith}
 use borrow.Author.Tests.{eq-eqb, ne-eqb}
 use lib.ListN.{length}
 use Rattle.phones.specs.declared.PhoneList.{PhoneList}
-use Rattle.phones.specs.Ids.{Left, stays, becomes, pushed}
+use Rattle.phones.specs.Ids.{someOf, idsFit, Left, stays, becomes, pushed}
 use Rattle.phones.specs.Phones.{phonesOf, listOf, laid}
-use Rattle.phones.proofs.Laws.{phones-of-list, push-room}
+use Rattle.phones.proofs.Laws.{phones-of-list}
+use Rattle.phones.proofs.Packed.{always-room}
 use Rattle.saved_record.specs.SavedRecord.{Reading, malformed, tooLarge, ok, refusal, restored}
 use Rattle.state.specs.declared.Phones.{Phones}
 use Rattle.state.specs.declared.Validations.{Validations}
@@ -31,8 +32,9 @@ module _ (car : List ℕ) (l : PhoneList) (ps : List (List ℕ)) (n : ℕ) where
   store-some e k z = rw (ne-eqb (length ps) 0 (λ w. z (counted l ps n e k ∙ w)), e)
 
 -- a list of one phone
-pub append-one : (s : List ℕ) → laid (listOf []) (pushed s (phonesOf (listOf []))) ≡ listOf (s ∷ [])
-append-one s = rw (phones-of-list [], push-room s [] (omega arith))
+pub append-one : (s : List ℕ) → length s ≤ 32 → laid (listOf []) (pushed s (phonesOf (listOf []))) ≡ listOf (s ∷ [])
+unfolding idsFit someOf
+append-one s h = rw (phones-of-list [], always-room [] s refl (omega arith) h)
 
 -- one phone more of the same car
 pub of-car-laid : (v : Validations) (x : Left (List (List ℕ))) → record { car = v .car; phones = laid (v .phones) x } ≡ laidStore v (ofCar (v .car) x)

@@ -1,62 +1,57 @@
--- A list that is not full is copied in canonical form, and the id stored after the others.
-use borrow.Author.Needs.{needs}
-use mathlib.Core.Path.{_≡_, sym, _∙_}
-use Prim.Native.Nat.{_≤_, _<_}
+-- A list with room is copied over zeros at once, and the id written after the others.
+use mathlib.Core.Path.{_≡_, sym, ap}
+use Prim.Native.Nat.{_≤_}
 use native.Mathlib.Omega.{arith}
-use lib.ListN.{length}
-use Rattle.arrays.proofs.Laws.{long-map}
-use borrow.Author.Tests.{lt-ltb, le-ltb}
-use Rattle.phones.specs.Ids.{pushed}
-use Rattle.phones.specs.Phones.{phonesOf}
-use Rattle.phones.proofs.Laws.{phones-length}
-use Rattle.phones.proofs.Build.{stored}
+use borrow.Author.Needs.{needs}
+use lib.ListN.{length, take, length-take}
+use Rattle.phones.specs.declared.Measured.{Measured}
+use Rattle.phones.proofs.Laws.{phones-length, append-full}
+use Rattle.phones.proofs.Walk.{ids-end}
+use Rattle.phones.proofs.Build.{push-long, push-built}
 use Rattle.phones.proofs.append.Statement.{statement}
 use Rattle.phones.proofs.append.Tie as tie
 
-clamp-requires : tie.Need-clamp-requires
-clamp-requires c κs = tt
-
-canonical-requires : tie.Need-canonical-requires
-canonical-requires c κs = tt
-
-clean-requires : tie.Need-clean-requires
-clean-requires c κs = tt
-
-mul-q : tie.Need-mul-q
-mul-q c = search needs
-
-element-set-from-q : tie.Need-element-set-from-q
-element-set-from-q c = search needs
-
-add-out : tie.Need-add-out
-add-out c = search needs
-
-returns : tie.Need-returns
-unfolding pushed
-returns c =
-    let l = c .before .before .before .before .args .l in
-    let far : length (l .ids) ≡ 32 = search (needs, long-map) in
-    let n : c .before .before .before .clamp .result ≡ length (phonesOf l) = c .before .before .before .clamp .ensures ∙ sym (phones-length l far) in
-    let room : length (phonesOf l) < 32 = omega arith in
-    rw (lt-ltb _ _ room) (stored (c .before .canonical .result) _ (phonesOf l) _ _ (c .before .canonical .ensures) (c .clean .ensures) n (omega arith))
-
-returns-2 : tie.Need-returns-2
-unfolding pushed
-returns-2 c =
-    let l = c .before .before .args .l in
-    let far : length (l .ids) ≡ 32 = search (needs, long-map) in
-    let full : 32 ≤ length (phonesOf l) = omega (arith, phones-length l far) in
-    rw (le-ltb _ _ full)
+-- the ids end within the array
+within : (c : tie.After-measure) → c .measure .result .end ≤ 1024
+within c =
+    let l = c .before .before .before .before .before .before .before .args .t1 in
+    let far : length (l .bytes) ≡ 1024 = search needs in
+    let e = ap (λ (m : Measured). m .end) (c .measure .ensures) in
+    let fits = ids-end (take (l .count) (l .lens)) (l .bytes) in
+    omega arith
 
 pub append-spec : {M : Type 1} → statement M
 append-spec =
     tie.close
     (tie.spec
-    clamp-requires
-    canonical-requires
-    clean-requires
-    mul-q
-    element-set-from-q
-    add-out
-    returns
-    returns-2)
+    (λ c κs. tt)
+    (λ c κs. tt)
+    (λ c κs. tt)
+    (λ c. let h = within (c .before) in omega arith)
+    (λ c.
+    let a = c .before .before .before .before .before .before .before .before .before .args in
+    let far : length (a .t1 .bytes) ≡ 1024 = search needs in
+    let many : length (a .t1 .lens) ≡ 32 = search needs in
+    let wide : length (a .p .bytes) ≡ 32 = search needs in
+    push-long (a .t1) (a .p) _ _ _ far many wide (c .before .before .measure .ensures) (c .before .before .before .before .before .before .before .clamp .ensures) (c .before .clamp2 .ensures) (omega arith) (omega arith))
+    (λ c. search needs)
+    (λ c. rw length-take (let h = within (c .before .before .before .before .before .before .before .before) in omega arith))
+    (λ c κs. rw length-take (let h = within (c .before .before .before .before .before .before .before .before) in omega arith))
+    (λ c. search needs)
+    (λ c. let wide : length (c .before .before .before .before .before .before .before .before .before .before .before .before .before .before .before .before .before .before .args .p .bytes) ≡ 32 = search needs in omega arith)
+    (λ c. let wide : length (c .before .before .before .before .before .before .before .before .before .before .before .before .before .before .before .before .before .before .before .args .p .bytes) ≡ 32 = search needs in rw length-take (omega arith))
+    (λ c κs. rw length-take (let h = c .before .before .before .put .kept .0 in omega arith))
+    (λ c. search needs)
+    (λ c. search needs)
+    (λ c. search needs)
+    (λ c.
+    let a = c .before .before .before .before .before .before .before .before .before .before .before .before .before .before .before .before .before .before .before .before .before .before .args in
+    let far : length (a .t1 .bytes) ≡ 1024 = search needs in
+    let many : length (a .t1 .lens) ≡ 32 = search needs in
+    let wide : length (a .p .bytes) ≡ 32 = search needs in
+    rw (c .before .before .put2 .ensures, c .before .before .before .before .before .before .put .ensures)
+    (push-built (a .t1) (a .p) _ _ _ far many wide (c .before .before .before .before .before .before .before .before .before .before .before .before .before .before .before .measure .ensures) (c .before .before .before .before .before .before .before .before .before .before .before .before .before .before .before .before .before .before .before .before .clamp .ensures) (c .before .before .before .before .before .before .before .before .before .before .before .before .before .before .clamp2 .ensures) (omega arith) (omega arith)))
+    (λ c.
+    let l = c .before .before .before .args .t1 in
+    let many : length (l .lens) ≡ 32 = search needs in
+    sym (append-full l _ (let k = phones-length l many in omega arith))))

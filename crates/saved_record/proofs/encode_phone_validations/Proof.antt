@@ -5,9 +5,10 @@ use native.Mathlib.Omega.{arith}
 use borrow.Author.Needs.{needs}
 use lib.ListN.{length, length-set}
 use Rattle.phones.specs.Phones.{phonesOf}
-use Rattle.phones.proofs.Owned.{owned-count, owned-short}
-use Rattle.phones.proofs.Range.{Short}
-use Rattle.saved_record.proofs.Writing.{list-fits, record-empty, record-written}
+use Rattle.phones.proofs.Owned.{owned-count}
+use Rattle.phone_fields.specs.PhoneFields.{fields}
+use Rattle.phone_fields.proofs.Laws.{owned-fields}
+use Rattle.saved_record.proofs.Writing.{record-empty, record-written}
 use Rattle.saved_record.proofs.encode_phone_validations.Statement.{statement}
 use Rattle.saved_record.proofs.encode_phone_validations.Tie as tie
 
@@ -43,10 +44,8 @@ slice-aggregate-put-fields c = search needs
 put-fields-requires : tie.Need-put-fields-requires
 put-fields-requires c κs =
     let l = c .before .before .before .before .before .before .before .args .phones in
-    let few : length (phonesOf l) ≤ 32 = search (needs, owned-count) in
-    let short : Short (phonesOf l) = search (needs, owned-short) in
-    let room = list-fits l few short in
-    rw (length-set, c .before .before .put .kept .0, length-set) room
+    let room : length (fields (phonesOf l)) ≤ 1056 = search (needs, owned-fields) in
+    rw (length-set, c .before .before .put .kept .0, length-set) (omega arith)
 
 returns-2 : tie.Need-returns-2
 returns-2 c =

@@ -1,7 +1,12 @@
+use mathlib.Core.Path.{_≡_}
+use native.Mathlib.Omega.{arith}
+use borrow.Author.Needs.{needs}
+use lib.ListN.{length}
 use Rattle.validations.proofs.Laws.{append-one, of-car-laid}
 use Rattle.validations.specs.Store.{validating}
 use Rattle.phones.specs.Ids.{pushed}
 use Rattle.phones.specs.Phones.{idBytes, phonesOf}
+use Rattle.phones.proofs.Laws.{used-length}
 use Rattle.validations.proofs.validate.Statement.{statement}
 use Rattle.validations.proofs.validate.Tie as tie
 
@@ -33,7 +38,11 @@ append-requires-2 c κs = tt
 
 returns-3 : tie.Need-returns-3
 unfolding validating
-returns-3 c = rw (c .append2 .ensures, c .before .empty-list .ensures, append-one _, ← c .before .before .before .is-of-car .ensures, c .before .before .if1 .left)
+returns-3 c =
+    let a = c .before .before .before .before .before .args in
+    let far : length (a .p .bytes) ≡ 32 = search needs in
+    let short = used-length (a .p) far in
+    rw (c .append2 .ensures, c .before .empty-list .ensures, append-one (idBytes (a .p)) (omega arith), ← c .before .before .before .is-of-car .ensures, c .before .before .if1 .left)
 
 pub validate-spec : {M : Type 1} → statement M
 validate-spec =

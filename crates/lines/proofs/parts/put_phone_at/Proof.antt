@@ -1,5 +1,4 @@
 use mathlib.Core.Path.{_∙_}
-use Rattle.phones.proofs.Laws.{bytes-of-id}
 use Rattle.lines.specs.Parts.{idAt}
 use Rattle.lines.proofs.parts.put_phone_at.Statement.{statement}
 use Rattle.lines.proofs.parts.put_phone_at.Tie as tie
@@ -11,9 +10,7 @@ put-phone-at-spec =
     (tie.spec
     (λ c κs. tt)
     (λ c κs. tt)
-    (λ c κs. tt)
-    (λ c. c .before .before .put-phone .kept .0 ∙ c .before .before .before .before .before .before .before .put-comma .kept .0)
+    (λ c. c .before .before .put-bytes .kept .0 ∙ c .before .before .before .before .before .before .put-comma .kept .0)
     (λ c. let c1 = c .before .before in
-    let c2 = c1 .before .before in
-    let c3 = c2 .before .before .before in
-    rw (c1 .put-phone .ensures, c2 .phone-at .ensures, bytes-of-id, c3 .put-comma .ensures)))
+    let c2 = c1 .before .before .before .before in
+    rw (c1 .put-bytes .ensures, c2 .put-comma .ensures)))

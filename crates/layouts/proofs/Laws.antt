@@ -1,0 +1,79 @@
+-- What a form must keep to, and that any two that do agree. It goes over what becomes of each list, not over the calls.
+use mathlib.Core.Path.{_≡_, refl, ap, sym, _∙_}
+use mathlib.Core.Bool.{Bool, cond}
+use mathlib.Core.List.{List, [], _∷_, map}
+use Prim.Native.Nat.{ℕ}
+use Rattle.phones.specs.Ids.{idsFit, Left, stays, becomes, afterwards}
+use Rattle.state.specs.Replies.{noS, sentS, sending}
+use Rattle.state.specs.View.{Store, View}
+use Rattle.validations.specs.Store.{recordFor}
+use Rattle.answers.specs.Query as Query
+use Rattle.answers.specs.Query.{Reply, plain, numberedReply}
+use Rattle.definition.specs.Gate.{Call, Says, says, nothing, Form, replied, gives}
+use Rattle.layouts.specs.Layouts.{run, Told, told}
+
+-- ---- what becomes of a view
+
+abbrev pub fitsAfter : Bool → Left (List (List ℕ)) → Bool
+fitsAfter t stays = t
+fitsAfter t (becomes ps) = idsFit ps
+
+abbrev pub storeFitsAfter : Bool → Left Store → Bool
+storeFitsAfter t stays = t
+storeFitsAfter t (becomes s) = idsFit (s .phones)
+
+abbrev pub after : View → Says → View
+after v s = record {
+  core = s .core;
+  lists = record { paired = afterwards (v .lists .paired) (s .paired); store = afterwards (v .lists .store) (s .store) };
+  pairedFits = fitsAfter (v .pairedFits) (s .paired);
+  storeFits = storeFitsAfter (v .storeFits) (s .store);
+  code = s .code;
+}
+
+pub record Lawful {G L : Type 0} (f : Form G L) (ids : L → List (List ℕ)) : Type 0 where
+  pub reads : (ps : List (List ℕ)) → ids (f .lay ps) ≡ ps
+  pub leaves : (g : G) (s : Says) → f .view (f .left g s) ≡ after (f .view g) s
+
+-- ---- the run of a view, which both runs are
+
+abbrev tells : View → Says → Told
+tells v s = record {
+  numbered = numberedReply (s .answer);
+  answer = s .answer;
+  signals = sending (s .raised) (cond (s .stores) (sentS (recordFor (afterwards (v .lists .store) (s .store)))) noS);
+  lent = nothing;
+  seen = after v s;
+}
+
+abbrev runSeen : View → List Call → List Told
+runSeen v [] = []
+runSeen v (k ∷ ks) = tells v (says v k) ∷ runSeen (after v (says v k)) ks
+
+module _ {G L : Type 0} (f : Form G L) (ids : L → List (List ℕ)) (law : Lawful f ids) where
+  read-back : (r : Reply (List (List ℕ))) → replied ids (replied (f .lay) r) ≡ r
+  read-back (plain a) = refl
+  read-back (Query.approval a) = refl
+  read-back (Query.access a) = refl
+  read-back (Query.phones a ps) = ap (λ (qs : List (List ℕ)). Query.phones a qs) (law .reads ps)
+  read-back (Query.trust a) = refl
+  read-back (Query.peer a) = refl
+  read-back (Query.phoneAccess a) = refl
+  read-back (Query.methods a) = refl
+  read-back (Query.challenge a) = refl
+  read-back (Query.saved a) = refl
+
+  tells-is : (g : G) (s : Says) → told f ids (gives f g s) ≡ tells (f .view g) s
+  unfolding gives
+  tells-is g s = rw (read-back (s .answer), law .leaves g s)
+
+  run-seen : (g : G) (ks : List Call) → map (told f ids) (run f g ks) ≡ runSeen (f .view g) ks
+  unfolding gives
+  run-seen g [] = refl
+  run-seen g (k ∷ ks) =
+      let s = says (f .view g) k in
+      rw (tells-is g s, run-seen (f .left g s) ks, law .leaves g s)
+
+module _ {G L H K : Type 0} (f : Form G L) (ids : L → List (List ℕ)) (law : Lawful f ids) (f′ : Form H K) (ids′ : K → List (List ℕ)) (law′ : Lawful f′ ids′) where
+  pub agree : (g : G) (h : H) (ks : List Call) → f .view g ≡ f′ .view h → map (told f ids) (run f g ks) ≡ map (told f′ ids′) (run f′ h ks)
+  agree g h ks e = run-seen f ids law g ks ∙ ap (λ (v : View). runSeen v ks) e ∙ sym (run-seen f′ ids′ law′ h ks)
