@@ -3,7 +3,7 @@
 fn main() {
     let folder = std::env::var("BENCH_LIBRARIES").expect("bench/run names the folder of the two archives");
     println!("cargo::rerun-if-env-changed=BENCH_LIBRARIES");
-    for name in ["timed", "reference"] {
+    for name in ["bench_calls", "reference"] {
         println!("cargo::rerun-if-changed={folder}/lib{name}.a");
         println!("cargo::rustc-link-lib=static={name}");
     }

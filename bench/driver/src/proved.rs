@@ -1,4 +1,4 @@
-//! The proved side: the functions of the Rattle crate `timed`. A slice crosses as a pointer and a length.
+//! The proved side: the functions of the Rattle crate `bench_calls`. A slice crosses as a pointer and a length.
 
 use crate::work::{METHOD, RANDOM, Work};
 

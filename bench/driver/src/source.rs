@@ -34,7 +34,7 @@ pub fn digest_of(fingerprint: &[u8]) -> [u8; 32] {
     can_access::car().expect("just confirmed")
 }
 
-/// The statics as `held::ready` of the crate `timed` makes its gate: the car identified and approved, the gate
+/// The statics as `held::ready` of the crate `bench_calls` makes its gate: the car identified and approved, the gate
 /// read-write, the phones paired and validated.
 fn ready(work: &Work) {
     core_interface::reset_phone_trust_for_tests();

@@ -12,12 +12,12 @@ use Rattle.arrays.proofs.Laws.{both}
 use Rattle.decimal.specs.Decimal.{digitsUpTo, decimalOf}
 use Rattle.hex.specs.Hex.{digit, hexOf}
 use Rattle.hex.proofs.Laws.{value-digit, hex-length}
-use Rattle.script.specs.Words.{before}
-use Rattle.script.specs.Values.{valueOr16, digitOf, numberFrom, numberIn, allDigits, isHex, pairsOf, idWith, idIn, dataIn}
-use Rattle.script.specs.declared.CanId.the-variants.{NoId}
-use Rattle.script.specs.declared.Number.{Number}
-use Rattle.script.specs.declared.Number.the-variants.{Given, NoNumber}
-use Rattle.script.proofs.Laws.{number-some}
+use Rattle.replay_script.specs.Words.{before}
+use Rattle.replay_script.specs.Values.{valueOr16, digitOf, numberFrom, numberIn, allDigits, isHex, pairsOf, idWith, idIn, dataIn}
+use Rattle.replay_script.specs.declared.CanId.the-variants.{NoId}
+use Rattle.replay_script.specs.declared.Number.{Number}
+use Rattle.replay_script.specs.declared.Number.the-variants.{Given, NoNumber}
+use Rattle.replay_script.proofs.Laws.{number-some}
 use Rattle.frame_log.specs.Lines.{joined, digitAt, hexadecimalOf, allBytes}
 use Rattle.frame_log.proofs.Words.{Without, without-append, without-one}
 

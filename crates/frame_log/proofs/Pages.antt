@@ -16,7 +16,7 @@ use Rattle.hex.proofs.Laws.{hex-length}
 use Rattle.frames.specs.Frames.{rawOf}
 use Rattle.frames.specs.declared.Id.{Id}
 use Rattle.frames.specs.declared.Id.the-variants.{Standard, Extended}
-use Rattle.lines.specs.Page.{Page, page, text, digitFrom, hexadecimal}
+use Rattle.replay_lines.specs.Page.{Page, page, text, digitFrom, hexadecimal}
 use Rattle.matcher.specs.Match.{Entry}
 use Rattle.frame_log.specs.Lines.{joined, digitAt, hexDigits, hexadecimalOf, kindOf, lineOf}
 use Rattle.frame_log.specs.Walk.{Laid, lay, front, back}

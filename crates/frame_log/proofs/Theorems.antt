@@ -18,14 +18,14 @@ use Rattle.frames.specs.Frames.{rawOf, canIdInRange}
 use Rattle.frames.specs.declared.Id.{Id}
 use Rattle.frames.specs.declared.Id.the-variants.{Standard, Extended}
 use Rattle.matcher.specs.Match.{Entry, entry}
-use Rattle.script.specs.Words.{before}
-use Rattle.script.specs.Values.{digitOf, numberIn, allDigits, isHex, pairsOf, idIn, idWith, dataIn}
-use Rattle.script.proofs.Laws.{number-most, pairs-length}
-use Rattle.script.specs.declared.CanId.{CanId}
-use Rattle.script.specs.declared.CanId.the-variants.{Is, NoId}
-use Rattle.script.specs.declared.Data.{Data}
-use Rattle.script.specs.declared.Number.{Number}
-use Rattle.script.specs.declared.Number.the-variants.{Given, NoNumber}
+use Rattle.replay_script.specs.Words.{before}
+use Rattle.replay_script.specs.Values.{digitOf, numberIn, allDigits, isHex, pairsOf, idIn, idWith, dataIn}
+use Rattle.replay_script.proofs.Laws.{number-most, pairs-length}
+use Rattle.replay_script.specs.declared.CanId.{CanId}
+use Rattle.replay_script.specs.declared.CanId.the-variants.{Is, NoId}
+use Rattle.replay_script.specs.declared.Data.{Data}
+use Rattle.replay_script.specs.declared.Number.{Number}
+use Rattle.replay_script.specs.declared.Number.the-variants.{Given, NoNumber}
 use Rattle.frame_log.specs.declared.LineEntry.{LineEntry}
 use Rattle.frame_log.specs.Lines.{joined, hexadecimalOf, kindOf, lineOf, allBytes, InForm}
 use Rattle.frame_log.specs.Guess.{noLine, lineEntry, behind, rest, valuesIn, entryWith, entryFrom, ifLine, readLine}

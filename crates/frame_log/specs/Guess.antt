@@ -11,13 +11,13 @@ use Rattle.frames.specs.declared.Id.{Id}
 use Rattle.frames.specs.declared.Id.the-variants.{Standard}
 use Rattle.frames.specs.declared.CanFrame.{CanFrame}
 use Rattle.matcher.specs.Match.{Entry, entry}
-use Rattle.script.specs.Words.{before}
-use Rattle.script.specs.Values.{numberIn, idIn, dataIn}
-use Rattle.script.specs.declared.CanId.{CanId}
-use Rattle.script.specs.declared.CanId.the-variants.{Is, NoId}
-use Rattle.script.specs.declared.Data.{Data}
-use Rattle.script.specs.declared.Number.{Number}
-use Rattle.script.specs.declared.Number.the-variants.{Given, NoNumber}
+use Rattle.replay_script.specs.Words.{before}
+use Rattle.replay_script.specs.Values.{numberIn, idIn, dataIn}
+use Rattle.replay_script.specs.declared.CanId.{CanId}
+use Rattle.replay_script.specs.declared.CanId.the-variants.{Is, NoId}
+use Rattle.replay_script.specs.declared.Data.{Data}
+use Rattle.replay_script.specs.declared.Number.{Number}
+use Rattle.replay_script.specs.declared.Number.the-variants.{Given, NoNumber}
 use Rattle.frame_log.specs.declared.LineEntry.{LineEntry}
 use Rattle.frame_log.specs.declared.line.Values.{Values}
 use Rattle.frame_log.specs.Lines.{lineOf}

@@ -9,7 +9,7 @@ use Rattle.ascii.specs.Ascii.{ascii}
 use Rattle.decimal.specs.Decimal.{decimalOf}
 use Rattle.hex.specs.Hex.{hexOf}
 use Rattle.frames.specs.declared.CanFrame.{CanFrame}
-use Rattle.lines.specs.Page.{Page, text}
+use Rattle.replay_lines.specs.Page.{Page, text}
 use Rattle.matcher.specs.Match.{Entry}
 use Rattle.frame_log.specs.Lines.{kindOf}
 

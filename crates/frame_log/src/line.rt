@@ -2,17 +2,17 @@
 use crate::LineEntry;
 use frames::CanFrame;
 use frames::Id;
-use script::CanId;
-use script::Data;
-use script::Number;
+use replay_script::CanId;
+use replay_script::Data;
+use replay_script::Number;
 ghost use mathlib.Core.Path.{_≡_};
 ghost use Prim.Native.Nat.{_≤_};
 ghost use lib.ListN.{length, take, drop};
 ghost use Rattle.arrays.specs.Arrays.{sameBytes};
 ghost use Rattle.hex.specs.Hex.{hexOf};
-ghost use Rattle.lines.specs.Page.{page, text};
+ghost use Rattle.replay_lines.specs.Page.{page, text};
 ghost use Rattle.matcher.specs.Match.{entry};
-ghost use Rattle.script.specs.Values.{numberIn, idIn, dataIn};
+ghost use Rattle.replay_script.specs.Values.{numberIn, idIn, dataIn};
 ghost use Rattle.frame_log.specs.Lines.{lineOf, kindOf};
 ghost use Rattle.frame_log.specs.Guess.{emptyFrame, noLine, behind, rest, valuesIn, entryIf, entryFrom, readLine};
 ghost use Rattle.frame_log.specs.Walk.{Laid, lay, front, back};
@@ -55,7 +55,7 @@ fn next(s: &[u8], at: usize) -> usize
     requires { ⌜ at ≤ length (now s) ⌝ }
     ensures { λ r. ⌜ (r ≤ length (now (s .entry))) × (drop r (now (s .entry)) ≡ rest (drop at (now (s .entry)))) ⌝ }
 {
-    let e = script::find(s, at, b' ');
+    let e = replay_script::find(s, at, b' ');
     if e < s.len() {
         return e + 1;
     }
@@ -66,26 +66,26 @@ fn next(s: &[u8], at: usize) -> usize
 fn number_at(s: &[u8], skip: usize) -> Number
     ensures { λ r. ⌜ r ≡ numberIn 10 18446744073709551615 (behind skip (now (s .entry))) ⌝ }
 {
-    let e = script::find(s, 0, b' ');
+    let e = replay_script::find(s, 0, b' ');
     if e < skip {
         return Number::NoNumber;
     }
-    script::values::number_in(&s[skip..e], 10, 18446744073709551615)
+    replay_script::values::number_in(&s[skip..e], 10, 18446744073709551615)
 }
 
 // The id of the words `kind=` and `id=`, at the fronts of two texts.
 fn id_at(kind: &[u8], id: &[u8]) -> CanId
     ensures { λ r. ⌜ r ≡ idIn (behind 5 (now (kind .entry))) (behind 3 (now (id .entry))) ⌝ }
 {
-    let e = script::find(kind, 0, b' ');
+    let e = replay_script::find(kind, 0, b' ');
     if e < 5 {
         return CanId::NoId;
     }
-    let f = script::find(id, 0, b' ');
+    let f = replay_script::find(id, 0, b' ');
     if f < 3 {
         return CanId::NoId;
     }
-    script::values::can_id_in(&kind[5..e], &id[3..f])
+    replay_script::values::can_id_in(&kind[5..e], &id[3..f])
 }
 
 // The bytes behind `data=`.
@@ -96,7 +96,7 @@ fn data_at(s: &[u8]) -> Data
         let bytes = [0u8; 8];
         return Data { ok: false, bytes };
     }
-    script::values::data_in(&s[5..21])
+    replay_script::values::data_in(&s[5..21])
 }
 
 // What stands behind the keys.
@@ -180,8 +180,8 @@ fn put_kind(out: &mut [u8], at: usize, id: Id) -> usize
     ensures { λ r. ⌜ page (now (out .exit)) r ≡ text (kindOf id) (page (now (out .entry)) at) ⌝ }
 {
     match id {
-        Id::Standard(_) => lines::put_text(out, at, b"std"),
-        Id::Extended(_) => lines::put_text(out, at, b"ext"),
+        Id::Standard(_) => replay_lines::put_text(out, at, b"std"),
+        Id::Extended(_) => replay_lines::put_text(out, at, b"ext"),
     }
 }
 
@@ -189,7 +189,7 @@ fn put_kind(out: &mut [u8], at: usize, id: Id) -> usize
 fn put_data(out: &mut [u8], at: usize, data: [u8; 8]) -> usize
     ensures { λ r. ⌜ page (now (out .exit)) r ≡ text (hexOf «data») (page (now (out .entry)) at) ⌝ }
 {
-    lines::put_bytes(out, at, &data)
+    replay_lines::put_bytes(out, at, &data)
 }
 
 // A line up to its id.
@@ -197,11 +197,11 @@ fn put_front(out: &mut [u8], time: u64, f: CanFrame) -> usize
     ensures { λ r. ⌜ page (now (out .exit)) r ≡ lay (front (entry time f)) (page (now (out .entry)) 0) ⌝ }
 {
     let id = f.id;
-    let k = lines::put_item(out, 0, b"time=", time);
-    let k = lines::put_item(out, k, b" bus=", f.bus as u64);
-    let k = lines::put_text(out, k, b" kind=");
+    let k = replay_lines::put_item(out, 0, b"time=", time);
+    let k = replay_lines::put_item(out, k, b" bus=", f.bus as u64);
+    let k = replay_lines::put_text(out, k, b" kind=");
     let k = put_kind(out, k, id);
-    lines::put_text(out, k, b" id=")
+    replay_lines::put_text(out, k, b" id=")
 }
 
 // A line behind its id.
@@ -209,10 +209,10 @@ fn put_back(out: &mut [u8], at: usize, f: CanFrame) -> usize
     ensures { λ r. ⌜ page (now (out .exit)) r ≡ lay (back f) (page (now (out .entry)) at) ⌝ }
 {
     let data = f.data;
-    let k = lines::put_item(out, at, b" dlc=", f.dlc as u64);
-    let k = lines::put_text(out, k, b" data=");
+    let k = replay_lines::put_item(out, at, b" dlc=", f.dlc as u64);
+    let k = replay_lines::put_text(out, k, b" data=");
     let k = put_data(out, k, data);
-    lines::put_text(out, k, b"\n")
+    replay_lines::put_text(out, k, b"\n")
 }
 
 // Writes the line of an entry over `out`, and answers its length. 85 bytes are room for any bus and dlc of a byte.
@@ -222,7 +222,7 @@ fn put_line(out: &mut [u8], time: u64, f: CanFrame) -> usize
 {
     let id = f.id;
     let k = put_front(out, time, f);
-    let k = lines::put_hexadecimal(out, k, frames::id_raw(id));
+    let k = replay_lines::put_hexadecimal(out, k, frames::id_raw(id));
     put_back(out, k, f)
 }
 

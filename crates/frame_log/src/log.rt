@@ -14,7 +14,7 @@ fn line_end(s: &[u8], at: usize) -> usize
     requires { ⌜ at < length (now s) ⌝ }
     ensures { λ r. ⌜ r ≡ at + lineLength (drop at (now (s .entry))) ⌝ }
 {
-    let e = script::find(s, at, 10);
+    let e = replay_script::find(s, at, 10);
     if e < s.len() {
         return e + 1;
     }

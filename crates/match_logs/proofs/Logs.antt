@@ -18,7 +18,7 @@ use Rattle.frame_log.specs.Logs.{linesOf, Reading, read, badLine, timeBack, too
 use Rattle.frame_log.specs.Walk.{Laid, lay}
 use Rattle.frame_log.proofs.Bounded.{first-bytes}
 use Rattle.frame_log.proofs.Pages.{laid-text, laid-all}
-use Rattle.lines.specs.Page.{Page, text}
+use Rattle.replay_lines.specs.Page.{Page, text}
 use Rattle.matcher.specs.Match.{Entry, entry, paired, entriesOf, wrongSize, fallFrom, firstFall, matchOf, verdict}
 use Rattle.matcher.specs.declared.Found.the-variants.{Nothing}
 use Rattle.matcher.specs.declared.Log.{Log}

@@ -109,9 +109,9 @@ pub fn can_access_state(g: Gate) -> AccessAnswer
     if range::in_range(g) {
         let core = g.core;
         let policy = core.policy;
-        return shown::access_of(policy);
+        return long_answers::access_of(policy);
     }
-    shown::no_access_state()
+    long_answers::no_access_state()
 }
 
 pub fn platform_id(g: Gate) -> Answer
@@ -247,9 +247,9 @@ pub fn ble_peer(g: Gate) -> PeerAnswer
     if range::in_range(g) {
         let core = g.core;
         let phones = g.phones;
-        return shown::peer_of(core, phones);
+        return long_answers::peer_of(core, phones);
     }
-    shown::no_peer(Answer::BadSettings)
+    long_answers::no_peer(Answer::BadSettings)
 }
 
 pub fn encode_phone_validations(g: Gate) -> RecordAnswer
@@ -278,9 +278,9 @@ pub fn phone_access_state(g: Gate, clock: u64) -> PhoneAccessAnswer
     if range::in_range(g) {
         let core = g.core;
         let phones = g.phones;
-        return shown::phone_access_of(core, phones, clock);
+        return long_answers::phone_access_of(core, phones, clock);
     }
-    shown::no_access(Answer::BadSettings)
+    long_answers::no_access(Answer::BadSettings)
 }
 
 pub fn validation_methods(g: Gate) -> MethodsAnswer
@@ -288,9 +288,9 @@ pub fn validation_methods(g: Gate) -> MethodsAnswer
 {
     if range::in_range(g) {
         let core = g.core;
-        return shown::methods_of(core);
+        return long_answers::methods_of(core);
     }
-    shown::no_methods()
+    long_answers::no_methods()
 }
 
 pub fn session_for(g: Gate, phone: &[u8], clock: u64) -> Answer
@@ -298,7 +298,7 @@ pub fn session_for(g: Gate, phone: &[u8], clock: u64) -> Answer
 {
     if range::in_range(g) {
         let core = g.core;
-        return shown::session_shown(core, phone, clock);
+        return long_answers::session_shown(core, phone, clock);
     }
     Answer::BadSettings
 }
@@ -310,7 +310,7 @@ pub fn current_validation_challenge(g: Gate) -> ChallengeAnswer
     if range::in_range(g) {
         let core = g.core;
         let held = g.code;
-        return shown::challenge_now(core, held);
+        return long_answers::challenge_now(core, held);
     }
-    shown::no_challenge(Answer::BadSettings)
+    long_answers::no_challenge(Answer::BadSettings)
 }

@@ -11,19 +11,19 @@ use lib.ListN.{length, take, drop, drop-of-length-le, length-append}
 use lib.Seq.{append-snoc, drop-cons, drop-drop, length-take-le}
 use Rattle.arrays.specs.Arrays.{put}
 use Rattle.arrays.proofs.Laws.{put-take, put-length}
-use Rattle.calls.specs.Calls.{Line as Said, call, counters, state, unknown, lineOf}
-use Rattle.items.specs.Bytes.{bytesOf}
-use Rattle.items.specs.Items.{readOf}
-use Rattle.items.specs.Takes.{takes}
-use Rattle.lines.specs.Page.{Page, page}
-use Rattle.player.specs.Played as Played
-use Rattle.player.specs.Played.{begun, failed, firstWord, playedAs, played, stated, withState, passedOver}
+use Rattle.replay_calls.specs.Calls.{Line as Said, call, counters, state, unknown, lineOf}
+use Rattle.replay_items.specs.Bytes.{bytesOf}
+use Rattle.replay_items.specs.Items.{readOf}
+use Rattle.replay_items.specs.Takes.{takes}
+use Rattle.replay_lines.specs.Page.{Page, page}
+use Rattle.replay_player.specs.Played as Played
+use Rattle.replay_player.specs.Played.{begun, failed, firstWord, playedAs, played, stated, withState, passedOver}
 use Rattle.replay_names.specs.Names.{rows}
-use Rattle.script.specs.Words.{before}
-use Rattle.script.proofs.Laws.{found}
+use Rattle.replay_script.specs.Words.{before}
+use Rattle.replay_script.proofs.Laws.{found}
 use Rattle.state.specs.declared.Gate.{Gate}
-use Rattle.turns.specs.Turns.{Turn, laid, ran}
-use Rattle.words.specs.Words.{placeIn}
+use Rattle.replay_steps.specs.Turns.{Turn, laid, ran}
+use Rattle.word_table.specs.Words.{placeIn}
 use Rattle.replay.specs.Script.{keptLen, keptIn, Line, short, long, lineIn, plus, lineGives, gateAfter, Reading, ended, grown, read, readingOf, nextLine}
 use Rattle.replay.specs.declared.Replay.{Replay}
 

@@ -1,17 +1,17 @@
 // Reads a script on standard input, plays it on one gate and prints what each line gives; with the argument `--state` also
-// the gate's state after each call. What is printed of a line is `player::play` of it. What a program reads and writes is open
+// the gate's state after each call. What is printed of a line is `replay_player::play` of it. What a program reads and writes is open
 // to a contract; `run` and `main` give nothing back.
 use libc::STDERR_FILENO;
 use libc::STDIN_FILENO;
 use libc::STDOUT_FILENO;
+use replay_steps::Played;
 use state::Gate;
-use turns::Played;
 ghost use mathlib.Core.Bool.{true};
 ghost use mathlib.Core.Path.{_≡_};
 ghost use Prim.Native.Nat.{_≤_};
 ghost use lib.ListN.{length};
-ghost use Rattle.lines.specs.Page.{page};
-ghost use Rattle.turns.specs.Turns.{turnOf};
+ghost use Rattle.replay_lines.specs.Page.{page};
+ghost use Rattle.replay_steps.specs.Turns.{turnOf};
 ghost use Rattle.replay.specs.Arguments.{askedBy};
 ghost use Rattle.replay.specs.Script.{keptLen, keptIn, lineIn, lineGives, gateAfter, read, ReadOn, readingOf, nextLine};
 
@@ -96,13 +96,13 @@ fn give_line(p: Replay, line: &[u8], states: bool, room: &mut [u8], out: &mut [u
     let n = p.len;
     let g = p.gate;
     if line.len() < n {
-        let k = player::put_too_long(p.number, out);
-        return turns::not_called(g, k);
+        let k = replay_player::put_too_long(p.number, out);
+        return replay_steps::not_called(g, k);
     }
-    if player::is_passed_over(&line[..n]) {
-        return turns::not_called(g, 0);
+    if replay_player::is_passed_over(&line[..n]) {
+        return replay_steps::not_called(g, 0);
     }
-    player::play(g, p.number, &line[..n], states, room, out)
+    replay_player::play(g, p.number, &line[..n], states, room, out)
 }
 
 // Plays the line that has ended; the next one has no byte yet. Open is whether it goes on, as `print` says, and what is left
@@ -137,7 +137,7 @@ fn read_piece(
     let mut q = p;
     let mut from = 0;
     while from < piece.len() {
-        let e = script::find(piece, from, 10);
+        let e = replay_script::find(piece, from, 10);
         q.len = keep(line, q.len, &piece[from..e]);
         if piece.len() <= e {
             return q;
@@ -177,7 +177,7 @@ fn turn(p: Replay, line: &mut [u8], states: bool, room: &mut [u8], out: &mut [u8
 fn run(states: bool, line: &mut [u8], room: &mut [u8], out: &mut [u8])
     requires { ⌜ length (now line) ≤ length (now room) ⌝ }
 {
-    let first = player::first_gate();
+    let first = replay_player::first_gate();
     let mut p = Replay {
         gate: first,
         number: 1,

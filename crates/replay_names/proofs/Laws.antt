@@ -7,8 +7,8 @@ use native.Mathlib.Omega.{arith}
 use borrow.Author.Tests.{eq-eqb, ne-eqb, eqb-true, eqb-false}
 use lib.Dec.{eqb}
 use lib.ListN.{length, take, drop, getD}
-use Rattle.words.specs.Words.{before, linesOf, placeIn}
-use Rattle.words.proofs.Laws.{lines-cut, lines-end}
+use Rattle.word_table.specs.Words.{before, linesOf, placeIn}
+use Rattle.word_table.proofs.Laws.{lines-cut, lines-end}
 use Rattle.replay_names.specs.Names.{allRight, inAll, exactly}
 
 -- m less on both sides

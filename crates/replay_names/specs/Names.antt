@@ -6,11 +6,11 @@ use Prim.Native.String.{String}
 use lib.Dec.{eqb, ltb}
 use lib.ListN.{length, getD}
 use Rattle.ascii.specs.Ascii.{ascii}
-use Rattle.words.specs.Words.{linesOf, restOf, placeIn}
+use Rattle.word_table.specs.Words.{linesOf, restOf, placeIn}
 
 -- A row to a name: the calls of the phones, from `new` on, and those of the bike, from `approve_can_read_write` on; the queries with a
 -- plain answer, from `is_can_read_only` on, and those with a longer one, from `can_read_write_approval` on; the two lines that are no
--- calls. calls/specs/Calls.antt has what each makes, in the same order.
+-- calls. replay_calls/specs/Calls.antt has what each makes, in the same order.
 unfoldable pub table : List String
 table =
     "new settings methods"

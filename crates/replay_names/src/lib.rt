@@ -4,7 +4,7 @@ ghost use mathlib.Core.Path.{_≡_};
 ghost use mathlib.Core.Bool.{false};
 ghost use lib.Dec.{ltb};
 ghost use lib.ListN.{length, getD};
-ghost use Rattle.words.specs.Words.{linesOf, restOf, placeIn};
+ghost use Rattle.word_table.specs.Words.{linesOf, restOf, placeIn};
 ghost use Rattle.replay_names.specs.Names as Names;
 ghost use Rattle.replay_names.specs.Names.{rows, keys, exactly, wanted};
 
@@ -73,7 +73,7 @@ state
 pub fn name_of(word: &[u8]) -> usize
     ensures { λ r. ⌜ r ≡ placeIn rows (now (word .entry)) ⌝ }
 {
-    words::place_in(&ROWS, word)
+    word_table::place_in(&ROWS, word)
 }
 
 // Whether a row has this number.
@@ -131,10 +131,10 @@ fn has_all(row: &[u8], keys: &[u8], right: [bool; 23], many: [usize; 23], count:
     ensures { λ r. ⌜ r ≡ exactly (linesOf 10 (now (keys .entry))) right many count (linesOf 32 (restOf (now (row .entry)))) ⌝ }
 {
     let mut left = count;
-    let mut at = words::end_of(row, 0, 32) + 1;
+    let mut at = word_table::end_of(row, 0, 32) + 1;
     while at < row.len() {
-        let end = words::end_of(row, at, 32);
-        let k = words::place_in(keys, &row[at..end]);
+        let end = word_table::end_of(row, at, 32);
+        let k = word_table::place_in(keys, &row[at..end]);
         if is_right(right, k) {
             let n = how_many(many, k);
             if left < n {
@@ -160,7 +160,7 @@ fn row_takes(
 ) -> bool
     ensures { λ r. ⌜ r ≡ wanted (linesOf 10 (now (rows .entry))) (linesOf 10 (now (keys .entry))) name right many count ⌝ }
 {
-    let row = words::row_at(rows, name);
+    let row = word_table::row_at(rows, name);
     let start = row.0;
     let end = row.1;
     has_all(&rows[start..end], keys, right, many, count)

@@ -1,9 +1,9 @@
 -- The gate is the same whatever was laid down; the next number wraps. Assumes nothing.
 use denote.Ref.{now}
-use Rattle.lines.specs.Page.{page}
+use Rattle.replay_lines.specs.Page.{page}
 use Rattle.replay.specs.Script.{lineIn}
 use mathlib.Core.Path.{ap, _∙_}
-use Rattle.turns.specs.Turns.{Turn}
+use Rattle.replay_steps.specs.Turns.{Turn}
 use Rattle.replay.proofs.Laws.{gives-gate}
 use borrow.Author.Needs.{needs}
 use Rattle.replay.proofs.finish_line.Statement.{statement}

@@ -1,6 +1,6 @@
 -- What is printed lies in the memory. Assumes nothing.
 use native.Mathlib.Omega.{arith}
-use Rattle.script.proofs.Laws.{never}
+use Rattle.replay_script.proofs.Laws.{never}
 use Rattle.replay.proofs.Laws.{first-length}
 use borrow.Author.Needs.{needs}
 use Rattle.replay.proofs.print.Statement.{statement}

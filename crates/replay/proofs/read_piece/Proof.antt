@@ -5,7 +5,7 @@ use Prim.Native.Nat.{_-_, _≤_}
 use native.Mathlib.Omega.{arith}
 use denote.Ref.{now}
 use lib.ListN.{length, drop}
-use Rattle.script.proofs.Laws.{found-le, never}
+use Rattle.replay_script.proofs.Laws.{found-le, never}
 use Rattle.replay.specs.Script.{read, readingOf}
 use Rattle.replay.proofs.Laws.{read-none, piece-end, piece-on}
 use Rattle.replay.proofs.read_piece.Statement.{statement}

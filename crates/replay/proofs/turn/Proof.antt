@@ -1,5 +1,5 @@
 -- If it goes on, the piece is what was read. Otherwise `going` is set to false. Assumes nothing.
-use Rattle.script.proofs.Laws.{never}
+use Rattle.replay_script.proofs.Laws.{never}
 use borrow.Author.Needs.{needs}
 use Rattle.replay.proofs.turn.Statement.{statement}
 use Rattle.replay.proofs.turn.Tie as tie

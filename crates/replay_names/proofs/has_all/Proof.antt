@@ -3,8 +3,8 @@ use mathlib.Core.Path.{_≡_, sym, _∙_}
 use Prim.Native.Nat.{_≤_, _-_, _+_}
 use native.Mathlib.Omega.{arith}
 use lib.ListN.{length, drop}
-use Rattle.words.specs.Words.{linesOf, restOf, before}
-use Rattle.words.proofs.Laws.{end-inside}
+use Rattle.word_table.specs.Words.{linesOf, restOf, before}
+use Rattle.word_table.proofs.Laws.{end-inside}
 use Rattle.replay_names.specs.Names.{exactly}
 use Rattle.replay_names.proofs.Laws.{one-less, not-right, too-many, none-left}
 use Rattle.replay_names.proofs.has_all.Statement.{statement}

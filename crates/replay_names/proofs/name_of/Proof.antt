@@ -1,6 +1,6 @@
 -- The lines of the text are the words of the list, which antt computes.
 use borrow.Author.Needs.{needs}
-use Rattle.words.specs.Words.{linesOf}
+use Rattle.word_table.specs.Words.{linesOf}
 use Rattle.replay_names.specs.Names.{table, rows}
 use Rattle.replay_names.proofs.name_of.Statement.{statement}
 use Rattle.replay_names.proofs.name_of.Tie as tie

@@ -1,6 +1,6 @@
 -- The lines of the two texts are the rows and the keys, which antt computes.
 use borrow.Author.Needs.{needs}
-use Rattle.words.specs.Words.{linesOf}
+use Rattle.word_table.specs.Words.{linesOf}
 use Rattle.replay_names.specs.Names.{table, keyNames, rows, keys}
 use Rattle.replay_names.proofs.name_takes.Statement.{statement}
 use Rattle.replay_names.proofs.name_takes.Tie as tie

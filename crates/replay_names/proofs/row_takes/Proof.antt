@@ -2,7 +2,7 @@ use mathlib.Core.Path.{ap, _∙_}
 use mathlib.Core.List.{List}
 use Prim.Native.Nat.{ℕ}
 use borrow.Author.Needs.{needs}
-use Rattle.words.specs.Words.{linesOf, restOf}
+use Rattle.word_table.specs.Words.{linesOf, restOf}
 use Rattle.replay_names.specs.Names.{exactly, wanted}
 use Rattle.replay_names.proofs.row_takes.Statement.{statement}
 use Rattle.replay_names.proofs.row_takes.Tie as tie

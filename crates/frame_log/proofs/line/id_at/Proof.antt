@@ -1,6 +1,6 @@
 use mathlib.Core.Path.{ap₂, _∙_}
 use native.Mathlib.Omega.{arith}
-use Rattle.script.specs.Values.{numberIn, idIn}
+use Rattle.replay_script.specs.Values.{numberIn, idIn}
 use Rattle.frame_log.specs.Guess.{behind}
 use Rattle.frame_log.proofs.Words.{behind-short, behind-part, found-inside}
 use Rattle.frame_log.proofs.Numbers.{no-kind}

@@ -1,6 +1,6 @@
 use mathlib.Core.Path.{ap, _∙_}
 use native.Mathlib.Omega.{arith}
-use Rattle.script.specs.Values.{numberIn}
+use Rattle.replay_script.specs.Values.{numberIn}
 use Rattle.frame_log.proofs.Words.{behind-short, behind-part, found-inside}
 use Rattle.frame_log.proofs.line.number_at.Statement.{statement}
 use Rattle.frame_log.proofs.line.number_at.Tie as tie

@@ -1,5 +1,5 @@
 use mathlib.Core.Path.{_∙_}
-use Rattle.lines.specs.Page.{item}
+use Rattle.replay_lines.specs.Page.{item}
 use Rattle.frame_log.specs.Walk.{lay}
 use borrow.Author.Needs.{needs}
 use Rattle.frame_log.proofs.line.put_back.Statement.{statement}

@@ -1,10 +1,10 @@
-use Rattle.lines.specs.Page.{text}
+use Rattle.replay_lines.specs.Page.{text}
 use borrow.Author.Needs.{needs}
 use Rattle.frame_log.proofs.line.put_kind.Statement.{statement}
 use Rattle.frame_log.proofs.line.put_kind.Tie as tie
 use Rattle.frame_log.proofs.line.put_kind.Reads as reads
 use Rattle.frame_log.proofs.line.put_kind.Lts as lts
-use Rattle.lines.proofs.put_text.Reads as put-text-reads
+use Rattle.replay_lines.proofs.put_text.Reads as put-text-reads
 
 -- src/line.rt:176:44
 enum-told : tie.Need-enum-told

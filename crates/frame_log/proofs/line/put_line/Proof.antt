@@ -4,7 +4,7 @@ use Prim.Native.Nat.{_<_}
 use native.Mathlib.Omega.{arith}
 use denote.Ref.{now}
 use lib.ListN.{length}
-use Rattle.lines.specs.Page.{page}
+use Rattle.replay_lines.specs.Page.{page}
 use Rattle.matcher.specs.Match.{entry}
 use Rattle.frame_log.specs.Walk.{Laid}
 use Rattle.frame_log.proofs.Pages.{line-laid}

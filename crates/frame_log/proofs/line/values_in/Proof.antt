@@ -2,7 +2,7 @@ use mathlib.Core.Path.{_≡_, ap, ap₂, _∙_}
 use mathlib.Core.List.{List}
 use Prim.Native.Nat.{ℕ}
 use lib.ListN.{take, drop}
-use Rattle.script.specs.Values.{numberIn, idIn, dataIn}
+use Rattle.replay_script.specs.Values.{numberIn, idIn, dataIn}
 use Rattle.frame_log.specs.Guess.{behind, rest, valuesIn}
 use Rattle.frame_log.proofs.Words.{tail-is}
 use borrow.Author.Needs.{needs}

@@ -1,7 +1,7 @@
 use mathlib.Core.Path.{refl, _∙_}
 use mathlib.Core.List.{[]}
 use denote.Ref.{now}
-use Rattle.lines.specs.Page.{page}
+use Rattle.replay_lines.specs.Page.{page}
 use Rattle.frame_log.specs.Walk.{Laid}
 use Rattle.match_logs.proofs.Logs.{answer-laid}
 use borrow.Author.Needs.{needs}

@@ -1,4 +1,4 @@
-use Rattle.lines.specs.Page.{item}
+use Rattle.replay_lines.specs.Page.{item}
 use Rattle.frame_log.specs.Walk.{lay}
 use borrow.Author.Needs.{needs}
 use Rattle.match_logs.proofs.texts.put_fault.Statement.{statement}

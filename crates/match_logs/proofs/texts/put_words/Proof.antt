@@ -1,5 +1,5 @@
 use native.Mathlib.Omega.{arith}
-use Rattle.lines.specs.Page.{item}
+use Rattle.replay_lines.specs.Page.{item}
 use Rattle.frame_log.specs.Walk.{lay}
 use borrow.Author.Needs.{needs}
 use Rattle.match_logs.proofs.texts.put_words.Statement.{statement}

@@ -1,7 +1,0 @@
-use Rattle.items.specs.Takes.{found, rightOf}
-use Rattle.items.proofs.takes.right.Statement.{statement}
-use Rattle.items.proofs.takes.right.Tie as tie
-
-pub right-spec : {M : Type 1} → statement M
-unfolding found rightOf
-right-spec = tie.close (tie.spec (λ c κs. tt) (λ c κs. tt) (λ c. rw (c .before .either .ensures, c .class-right .ensures)))

@@ -1,0 +1,17 @@
+-- The fields of the array are those of the definition, which antt computes.
+use borrow.Author.Needs.{needs}
+use Rattle.replay_lines.specs.Table.{keys, keyNames}
+use Rattle.replay_lines.specs.Fields.{putFields}
+use Rattle.replay_answers.specs.Query.{encoded}
+use Rattle.replay_answers.proofs.put_encoded.Statement.{statement}
+use Rattle.replay_answers.proofs.put_encoded.Tie as tie
+
+pub put-encoded-spec : {M : Type 1} → statement M
+unfolding encoded keyNames keys putFields
+put-encoded-spec =
+    tie.close
+    (tie.spec
+    (λ c. search needs)
+    (λ c κs. tt)
+    (λ c. search needs)
+    (λ c. c .before .before .put-told .ensures))

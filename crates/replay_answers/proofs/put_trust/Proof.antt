@@ -1,0 +1,18 @@
+-- The fields of the array are those of the definition, which antt computes.
+use borrow.Author.Needs.{needs}
+use Rattle.replay_lines.specs.Table.{keys, keyNames}
+use Rattle.replay_lines.specs.Fields.{putFields}
+use Rattle.replay_answers.specs.Query.{trust}
+use Rattle.replay_answers.proofs.put_trust.Statement.{statement}
+use Rattle.replay_answers.proofs.put_trust.Tie as tie
+
+pub put-trust-spec : {M : Type 1} → statement M
+unfolding keyNames keys putFields trust
+put-trust-spec =
+    tie.close
+    (tie.spec
+    (λ c κs. tt)
+    (λ c. search needs)
+    (λ c κs. tt)
+    (λ c. search needs)
+    (λ c. rw (← c .before .before .before .before .before .trust-word .ensures) (c .before .before .put-told .ensures)))

@@ -1,0 +1,58 @@
+use borrow.Author.Needs.{needs}
+use denote.Ref.{now}
+use mathlib.Core.Path.{sym, ap, _∙_}
+use native.Mathlib.Nat.{add-zero}
+use lib.ListN.{length}
+use Rattle.replay_script.specs.Places.{itemOf}
+use Rattle.replay_items.specs.Bytes.{hasBytes, bytesAt}
+use Rattle.replay_items.proofs.Laws.{laid-as, lay-as, took, took-none, no-bytes}
+use Rattle.replay_items.proofs.bytes.lay.Statement.{statement}
+use Rattle.replay_items.proofs.bytes.lay.Tie as tie
+
+bytes-of-requires : tie.Need-bytes-of-requires
+bytes-of-requires c κs = tt
+
+enum-known-laid : tie.Need-enum-known-laid
+enum-known-laid c = search needs
+
+enum-told : tie.Need-enum-told
+enum-told c = search needs
+
+same-length : tie.Need-same-length
+same-length c = search needs
+
+returns : tie.Need-returns
+unfolding hasBytes bytesAt
+returns c =
+    let s = c .before .before .before .before .before .before .before .before .before .before in
+    let a = s .args in
+    let v = itemOf (now (a .key)) (now (a .line)) in
+    let e = c .before .before .before .before .before .bytes-of .ensures in
+    let t = took _ _ _ (sym (laid-as (a .form) v (a .at) (length (now (a .room))) (s .pre)) ∙ sym (e .0) ∙ c .before .laid .given .1) in
+    record { has = sym (t .0); end = sym (t .1); memory = e .1 ∙ lay-as (a .form) v (a .at) (now (a .room)) (s .pre) }
+
+same-length-2 : tie.Need-same-length-2
+same-length-2 c = search needs
+
+returns-2 : tie.Need-returns-2
+unfolding hasBytes bytesAt
+returns-2 c =
+    let s = c .before .before .before .before .before .before .before .before .before in
+    let a = s .args in
+    let v = itemOf (now (a .key)) (now (a .line)) in
+    let e = c .before .before .before .before .bytes-of .ensures in
+    let t = took-none _ _ (sym (laid-as (a .form) v (a .at) (length (now (a .room))) (s .pre)) ∙ sym (e .0) ∙ c .enum-told .given .1) in
+    let n = ap length (no-bytes (a .form) v t) in
+    record { has = sym t; end = rw n (sym (add-zero (a .at))); memory = e .1 ∙ lay-as (a .form) v (a .at) (now (a .room)) (s .pre) }
+
+pub lay-spec : {M : Type 1} → statement M
+lay-spec =
+    tie.close
+    (tie.spec
+    bytes-of-requires
+    enum-known-laid
+    enum-told
+    same-length
+    returns
+    same-length-2
+    returns-2)

@@ -1,0 +1,138 @@
+// Plays one line of a script on a gate: reads it, makes its call and lays down what it gives. That is `played` of
+// specs/Played.antt, which speaks of the calls by the gate's one definition, `step`.
+use replay_items::Ends;
+use replay_items::Items;
+use replay_steps::Played;
+use state::Gate;
+use state::Settings;
+ghost use mathlib.Core.Path.{_≡_};
+ghost use Prim.Native.Nat.{_≤_};
+ghost use lib.ListN.{length};
+ghost use Rattle.arrays.specs.Arrays.{put};
+ghost use Rattle.replay_items.specs.Bytes.{lentBytes, bytesOf, joined};
+ghost use Rattle.replay_lines.specs.Page.{page, text};
+ghost use Rattle.replay_calls.specs.Calls.{lineOf};
+ghost use Rattle.replay_steps.specs.Turns.{turnOf, ran};
+ghost use Rattle.replay_player.specs.Played.{begun, errorOf, failed, ended, played, withState, FromBadNew, passedOver, tooLong};
+
+// line=N call=WORD
+fn put_begin(out: &mut [u8], at: usize, number: u64, word: &[u8]) -> usize
+    ensures { λ r. ⌜ page (now (out .exit)) r ≡ begun number (now (word .entry)) (page (now (out .entry)) at) ⌝ }
+{
+    let k = replay_lines::put_item(out, at, b"line=", number);
+    let k = replay_lines::put_text(out, k, b" call=");
+    replay_lines::put_text(out, k, word)
+}
+
+// Why a line is no call.
+fn put_error(out: &mut [u8], at: usize, name: usize) -> usize
+    ensures { λ r. ⌜ page (now (out .exit)) r ≡ text (errorOf name) (page (now (out .entry)) at) ⌝ }
+{
+    if replay_names::is_name(name) {
+        return replay_lines::put_text(out, at, b" error=bad_items");
+    }
+    replay_lines::put_text(out, at, b" error=unknown_call")
+}
+
+// A line whose items are right.
+fn play_call(
+    g: Gate,
+    number: u64,
+    word: &[u8],
+    name: usize,
+    i: Items,
+    p: Ends,
+    room: &[u8],
+    out: &mut [u8],
+) -> Played
+    ensures { λ r. ⌜ turnOf r (now (out .exit)) ≡ ended (ran (lineOf name i (lentBytes p (now (room .entry)))) g (begun number (now (word .entry)) (page (now (out .entry)) 0))) ⌝ }
+{
+    let k = put_begin(out, 0, number, word);
+    let mut r = replay_steps::run(g, name, i, p, room, out, k);
+    r.at = replay_lines::put_text(out, r.at, b"\n");
+    r
+}
+
+// A line that is no call.
+fn play_error(g: Gate, number: u64, name: usize, out: &mut [u8]) -> Played
+    ensures { λ r. ⌜ turnOf r (now (out .exit)) ≡ ended (failed name g number (page (now (out .entry)) 0)) ⌝ }
+{
+    let k = replay_lines::put_item(out, 0, b"line=", number);
+    let k = put_error(out, k, name);
+    let k = replay_lines::put_text(out, k, b"\n");
+    replay_steps::not_called(g, k)
+}
+
+fn play_line(g: Gate, number: u64, line: &[u8], room: &mut [u8], out: &mut [u8]) -> Played
+    requires { ⌜ length (now line) ≤ length (now room) ⌝ }
+    ensures { λ r. ⌜ (turnOf r (now (out .exit)) ≡ played g number (now (line .entry)) (page (now (out .entry)) 0)) × (now (room .exit) ≡ put (now (room .entry)) 0 (joined (bytesOf (now (line .entry))))) ⌝ }
+{
+    let e = replay_script::name_end(line);
+    let name = replay_names::name_of(&line[..e]);
+    let read = replay_items::read(line, room);
+    let i = read.items;
+    let p = read.ends;
+    if replay_items::takes::takes(name, i) {
+        return play_call(g, number, &line[..e], name, i, p, room, out);
+    }
+    play_error(g, number, name, out)
+}
+
+// The line, and the state behind every call if that is asked for.
+pub fn play(
+    g: Gate,
+    number: u64,
+    line: &[u8],
+    states: bool,
+    room: &mut [u8],
+    out: &mut [u8],
+) -> Played
+    requires { ⌜ length (now line) ≤ length (now room) ⌝ }
+    ensures { λ r. ⌜ (turnOf r (now (out .exit)) ≡ withState states number (played g number (now (line .entry)) (page (now (out .entry)) 0))) × (now (room .exit) ≡ put (now (room .entry)) 0 (joined (bytesOf (now (line .entry))))) ⌝ }
+{
+    let mut r = play_line(g, number, line, room, out);
+    if states {
+        if r.called {
+            let k = put_begin(out, r.at, number, b"state");
+            let k = replay_state::put_gate(out, k, r.gate);
+            r.at = replay_lines::put_text(out, k, b"\n");
+        }
+    }
+    r
+}
+
+// The gate before the first `new`: what 25 hands back.
+pub fn first_gate() -> Gate
+    ensures { λ r. ⌜ FromBadNew r ⌝ }
+{
+    let settings = Settings {
+        digits: 0,
+        tries: 0,
+        session: 0,
+        cooldown: 0,
+        keep: 0,
+        bonded: 0,
+    };
+    let none = state::running::no_method();
+    let list = [none; 8];
+    let made = gate_sessions::new_gate(settings, list, 0);
+    made.gate
+}
+
+// Whether a line is passed over: it is empty or begins with `#`.
+pub fn is_passed_over(line: &[u8]) -> bool
+    ensures { λ r. ⌜ r ≡ passedOver (now (line .entry)) ⌝ }
+{
+    if line.len() == 0 {
+        return true;
+    }
+    line[0] == b'#'
+}
+
+// What a line that is too long to be read gives.
+pub fn put_too_long(number: u64, out: &mut [u8]) -> usize
+    ensures { λ r. ⌜ page (now (out .exit)) r ≡ tooLong number (page (now (out .entry)) 0) ⌝ }
+{
+    let k = replay_lines::put_item(out, 0, b"line=", number);
+    replay_lines::put_text(out, k, b" error=line_too_long\n")
+}

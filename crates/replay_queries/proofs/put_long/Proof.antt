@@ -1,0 +1,53 @@
+-- Each arm: its number, what its query ensures, and what is laid down of the answer.
+use borrow.Author.Needs.{needs}
+use denote.Ref.{now}
+use mathlib.Core.Path.{refl}
+use Rattle.answers.specs.Query.{canReadWriteApproval}
+use Rattle.replay_items.specs.Bytes.{lentBytes}
+use Rattle.replay_calls.specs.Calls.{longQueries, longQuery}
+use Rattle.replay_calls.proofs.Laws.{else-first}
+use Rattle.replay_queries.proofs.put_long.Statement.{statement}
+use Rattle.replay_queries.proofs.put_long.Tie as tie
+
+pub put-long-spec : {M : Type 1} → statement M
+unfolding lentBytes longQuery longQueries
+put-long-spec =
+    tie.close
+    (tie.spec
+    (λ c κs. tt)
+    (λ c κs. tt)
+    (λ c κs. tt)
+    (λ c κs. tt)
+    (λ c κs. tt)
+    (λ c κs. tt)
+    (λ c κs. tt)
+    (λ c κs. tt)
+    (λ c κs. tt)
+    (λ c κs. tt)
+    (λ c κs. tt)
+    (λ c κs. tt)
+    (λ c κs. tt)
+    (λ c κs. tt)
+    (λ c κs. tt)
+    (λ c κs. tt)
+    (λ c κs. tt)
+    (λ c κs. tt)
+    (λ c κs. tt)
+    (λ c. search needs)
+    (λ c. rw (c .before .before .before .before .before .match .keys1, ← c .before .before .before .can-access-state .ensures) (c .before .before .put-access .ensures))
+    (λ c. search needs)
+    (λ c. rw (c .before .before .before .before .before .match .keys2, ← c .before .before .before .list-paired-phones .ensures) (c .before .before .put-phones-listed .ensures))
+    (λ c. search needs)
+    (λ c. rw (c .before .before .before .before .before .before .match .keys3, ← c .before .before .before .before .before .lent .ensures, ← c .before .before .before .before .phone-trust-level .ensures) (c .before .before .put-trust .ensures))
+    (λ c. search needs)
+    (λ c. rw (c .before .before .before .before .before .match .keys4, ← c .before .before .before .ble-peer .ensures) (c .before .before .put-peer .ensures))
+    (λ c. search needs)
+    (λ c. rw (c .before .before .before .before .before .match .keys5, ← c .before .before .before .before .phone-access-state .ensures) (c .before .before .put-phone-access .ensures))
+    (λ c. search needs)
+    (λ c. rw (c .before .before .before .before .before .match .keys6, ← c .before .before .before .validation-methods .ensures) (c .before .before .put-methods .ensures))
+    (λ c. search needs)
+    (λ c. rw (c .before .before .before .before .before .match .keys7, ← c .before .before .before .current-validation-challenge .ensures) (c .before .before .put-challenge .ensures))
+    (λ c. search needs)
+    (λ c. rw (c .before .before .before .before .before .match .keys8, ← c .before .before .before .encode-phone-validations .ensures) (c .before .before .put-encoded .ensures))
+    (λ c. search needs)
+    (λ c. let a = c .before .before .before .before .before .before .before .before .args in rw (else-first (longQueries (a .i) (lentBytes (a .p) (now (a .room)))) canReadWriteApproval (a .name) refl (c .before .before .before .before .before .match .rest), ← c .before .before .before .can-read-write-approval .ensures) (c .before .before .put-approval .ensures)))

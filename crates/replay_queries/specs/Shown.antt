@@ -1,0 +1,18 @@
+-- How a reply is laid down.
+use Rattle.answers.specs.Query.{Reply, plain, approval, access, phones, trust, peer, phoneAccess, methods, challenge, saved}
+use Rattle.phones.specs.declared.PhoneList.{PhoneList}
+use Rattle.replay_lines.specs.Answer.{answer}
+use Rattle.replay_lines.specs.Page.{Page}
+use Rattle.replay_answers.specs.Query as Lines
+
+abbrev pub shown : Reply PhoneList → Page → Page
+shown (plain a) p = answer a p
+shown (approval a) p = Lines.approval a p
+shown (access a) p = Lines.access a p
+shown (phones a ps) p = Lines.phonesListed (record { answer = a; phones = ps }) p
+shown (trust a) p = Lines.trust a p
+shown (peer a) p = Lines.peer a p
+shown (phoneAccess a) p = Lines.phoneAccess a p
+shown (methods a) p = Lines.methods a p
+shown (challenge a) p = Lines.challenge a p
+shown (saved a) p = Lines.encoded a p

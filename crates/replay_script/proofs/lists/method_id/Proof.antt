@@ -1,0 +1,51 @@
+use borrow.Author.Needs.{needs}
+use mathlib.Core.Path.{sym, _∙_}
+use borrow.Author.Tests.{lt-ltb, le-ltb}
+use denote.Ref.{now}
+use native.Mathlib.Omega.{arith}
+use Rattle.replay_script.specs.Lists.{methodId}
+use Rattle.replay_script.specs.Values.{asBytes}
+use Rattle.replay_script.specs.declared.Written.the-variants.{HexOrText}
+use Rattle.replay_script.proofs.Laws.{id-made}
+use Rattle.replay_script.proofs.lists.method_id.Statement.{statement}
+use Rattle.replay_script.proofs.lists.method_id.Tie as tie
+
+is-bytes-requires : tie.Need-is-bytes-requires
+is-bytes-requires c κs = tt
+
+byte-count-requires : tie.Need-byte-count-requires
+byte-count-requires c κs = tt
+
+returns : tie.Need-returns
+unfolding methodId
+returns c = rw (← c .before .before .before .is-bytes .ensures, c .before .before .if1 .taken, ← c .before .byte-count .ensures, lt-ltb _ _ (c .if2 .taken))
+
+slice-aggregate-put-bytes : tie.Need-slice-aggregate-put-bytes
+slice-aggregate-put-bytes c = search needs
+
+put-bytes-requires : tie.Need-put-bytes-requires
+put-bytes-requires c κs = (sym (c .before .before .before .before .is-bytes .ensures) ∙ c .before .before .before .if1 .taken, omega (arith, c .before .before .byte-count .ensures, c .before .if2 .left))
+
+returns-2 : tie.Need-returns-2
+unfolding methodId
+returns-2 c =
+    let s = now (c .before .before .before .before .before .before .before .before .args .s) in
+    let n = c .before .before .before .before .byte-count .ensures in
+    let made = id-made _ (asBytes HexOrText s) _ (c .before .put-bytes .ensures) n in
+    rw (← c .before .before .before .before .before .before .is-bytes .ensures, c .before .before .before .before .before .if1 .taken, ← n, le-ltb _ _ (c .before .before .before .if2 .left), ← made)
+
+returns-3 : tie.Need-returns-3
+unfolding methodId
+returns-3 c = rw (← c .before .is-bytes .ensures, c .if1 .left)
+
+pub method-id-spec : {M : Type 1} → statement M
+method-id-spec =
+    tie.close
+    (tie.spec
+    is-bytes-requires
+    byte-count-requires
+    returns
+    slice-aggregate-put-bytes
+    put-bytes-requires
+    returns-2
+    returns-3)

@@ -1,0 +1,104 @@
+-- The invariant: those read, and the items behind `at`, are all.
+use mathlib.Core.Path.{_≡_, refl, sym, _∙_, ap}
+use Prim.Native.Nat.{_-_, _≤_}
+use native.Mathlib.Omega.{arith}
+use lib.ListN.{length, drop}
+use mathlib.Core.List.{[], _∷_}
+use Rattle.replay_script.specs.Words.{before, itemsOf, part}
+use Rattle.replay_script.specs.Places.{valuesOf, shown}
+use Rattle.ascii.specs.Ascii.{ascii}
+use Rattle.replay_script.specs.Lists.{noFrames, addFrame, addFrames, frameIn}
+use Rattle.replay_script.proofs.Laws.{items-end, values-none}
+use Rattle.replay_script.proofs.lists.probe_frames.Statement.{statement}
+use Rattle.replay_script.proofs.lists.probe_frames.Tie as tie
+
+abbrev Inv-loop : tie.InvT-loop
+Inv-loop line all₀ at₀ t8 all at = (t8 ≡ ascii "frame") × (all .count ≤ at) × (addFrames noFrames (valuesOf (ascii "frame") (itemsOf line)) ≡ addFrames all (valuesOf (ascii "frame") (itemsOf (drop at line))))
+
+abbrev μ-loop : tie.MeasureT-loop
+μ-loop line all₀ at₀ t8 all at = length line - at
+
+no-frames-requires : tie.Need-no-frames-requires Inv-loop μ-loop
+no-frames-requires c κs = tt
+
+loop-holds : tie.Need-loop-holds Inv-loop μ-loop
+loop-holds c =
+    let line = c .before .before .args .line .now in
+    let e = c .no-frames .ensures in
+    (refl, rw e (omega arith), rw e)
+
+slice-aggregate-next : tie.Need-slice-aggregate-next Inv-loop μ-loop
+slice-aggregate-next c = sym (ap length (c .before .before .loop .inv .0))
+
+next-requires : tie.Need-next-requires Inv-loop μ-loop
+next-requires c κs = tt
+
+sub-frame-in : tie.Need-sub-frame-in Inv-loop μ-loop
+sub-frame-in c = omega (arith, c .before .next .ensures .ordered, c .before .next .ensures .inside)
+
+part-frame-in-start : tie.Need-part-frame-in-start Inv-loop μ-loop
+part-frame-in-start c = omega (arith, c .before .next .ensures .ordered, c .before .next .ensures .inside)
+
+part-frame-in-end : tie.Need-part-frame-in-end Inv-loop μ-loop
+part-frame-in-end c = omega (arith, c .before .next .ensures .ordered, c .before .next .ensures .inside)
+
+frame-in-requires : tie.Need-frame-in-requires Inv-loop μ-loop
+frame-in-requires c κs = tt
+
+add-frame-requires : tie.Need-add-frame-requires Inv-loop μ-loop
+add-frame-requires c κs = omega (arith, c .before .before .before .before .before .before .loop .inv .1)
+
+loop-less : tie.Need-loop-less Inv-loop μ-loop
+loop-less c = omega (arith, c .before .before .before .before .next .ensures .onward (c .before .before .before .if1 .taken), c .before .before .before .before .next .ensures .inside)
+
+loop-again : tie.Need-loop-again Inv-loop μ-loop
+unfolding addFrames shown addFrame
+loop-again c =
+    let line = c .before .before .before .before .before .before .before .before .before .before .args .line .now in
+    let l = c .before .before .before .before .before .before .before .loop in
+    let n = c .before .before .before .before .next in
+    let ok = c .before .before .before .if1 .taken in
+    let word = part (n .result .start) (n .result .end) line in
+    let more = valuesOf (ascii "frame") (itemsOf (drop (n .result .end) line)) in
+    let e : valuesOf (ascii "frame") (itemsOf (drop (l .at) line)) ≡ word ∷ more = rw (l .inv .0) at (n .ensures .values) ∙ rw ok in
+    let all : c .add-frame .result ≡ addFrame (l .all) (frameIn word) = c .add-frame .ensures ∙ ap (addFrame (l .all)) (c .before .frame-in .ensures) in (
+      l .inv .0,
+      rw all (omega (arith, l .inv .1, n .ensures .onward ok)),
+      l .inv .2 ∙ (ap (addFrames (l .all)) e ∙ rw all),
+    )
+
+returns : tie.Need-returns Inv-loop μ-loop
+unfolding addFrames shown
+returns c =
+    let line = c .before .before .before .before .before .before .before .args .line .now in
+    let l = c .before .before .before .before .loop in
+    let n = c .before .next in
+    let e : valuesOf (ascii "frame") (itemsOf (drop (l .at) line)) ≡ [] = rw (l .inv .0) at (n .ensures .values) ∙ rw (c .if1 .left) in
+    sym (l .inv .2 ∙ ap (addFrames (l .all)) e)
+
+returns-2 : tie.Need-returns-2 Inv-loop μ-loop
+unfolding addFrames
+returns-2 c =
+    let line = c .before .before .before .before .args .line .now in
+    let l = c .before .loop in
+    sym (l .inv .2 ∙ ap (addFrames (l .all)) (ap (valuesOf (ascii "frame")) (items-end line (l .at) (omega arith)) ∙ values-none (ascii "frame")))
+
+pub probe-frames-spec : {M : Type 1} → statement M
+probe-frames-spec =
+    tie.close
+    (tie.spec
+    Inv-loop
+    μ-loop
+    no-frames-requires
+    loop-holds
+    slice-aggregate-next
+    next-requires
+    sub-frame-in
+    part-frame-in-start
+    part-frame-in-end
+    frame-in-requires
+    add-frame-requires
+    loop-less
+    loop-again
+    returns
+    returns-2)

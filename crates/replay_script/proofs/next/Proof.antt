@@ -1,0 +1,135 @@
+-- The invariant: the values behind `from` are those behind `at`, where a space stands or the line ends.
+use mathlib.Core.Path.{_≡_, sym, _∙_, ap}
+use Prim.Native.Nat.{_+_, _-_, _≤_, _<_}
+use native.Mathlib.Omega.{arith}
+use lib.ListN.{length, drop, getD}
+use Rattle.replay_script.specs.Words.{before, itemsOf}
+use Rattle.replay_script.specs.Places.{valuesOf, shown}
+use Rattle.replay_script.proofs.Laws.{found, items-from, items-end, values-none, word-inside, key-inside, values-hit, values-miss, never}
+use Rattle.replay_script.proofs.next.Statement.{statement}
+use Rattle.replay_script.proofs.next.Tie as tie
+
+abbrev Inv-loop : tie.InvT-loop
+Inv-loop line from key at₀ at = (from ≤ at) × (valuesOf key (itemsOf (drop from line)) ≡ valuesOf key (itemsOf (drop at line))) × (at < length line → getD line at 0 ≡ 32)
+
+abbrev μ-loop : tie.MeasureT-loop
+μ-loop line from key at₀ at = length line - at
+
+find-requires : tie.Need-find-requires Inv-loop μ-loop
+find-requires c κs = tt
+
+loop-holds : tie.Need-loop-holds Inv-loop μ-loop
+loop-holds c =
+    let a = c .before .before .before .args in
+    let line = a .line .now in
+    let q = c .find .ensures in
+    (omega arith, ap (valuesOf (a .key .now)) (items-from line (a .from) (c .find .result) q), found 32 line (a .from) (c .find .result) q)
+
+add-start : tie.Need-add-start Inv-loop μ-loop
+add-start c = omega arith
+
+find-requires-2 : tie.Need-find-requires-2 Inv-loop μ-loop
+find-requires-2 c κs = tt
+
+sub-has-key : tie.Need-sub-has-key Inv-loop μ-loop
+sub-has-key c =
+    let a = c .before .before .before .before .before .before .args in
+    omega (arith, word-inside (a .key .now) (a .line .now) (c .before .before .loop .at) (c .find2 .result) (omega arith) (c .find2 .ensures))
+
+part-has-key-start : tie.Need-part-has-key-start Inv-loop μ-loop
+part-has-key-start c =
+    let a = c .before .before .before .before .before .before .args in
+    omega (arith, word-inside (a .key .now) (a .line .now) (c .before .before .loop .at) (c .find2 .result) (omega arith) (c .find2 .ensures))
+
+part-has-key-end : tie.Need-part-has-key-end Inv-loop μ-loop
+part-has-key-end c =
+    let a = c .before .before .before .before .before .before .args in
+    omega (arith, word-inside (a .key .now) (a .line .now) (c .before .before .loop .at) (c .find2 .result) (omega arith) (c .find2 .ensures))
+
+has-key-requires : tie.Need-has-key-requires Inv-loop μ-loop
+has-key-requires c κs = tt
+
+add-t14 : tie.Need-add-t14 Inv-loop μ-loop
+add-t14 c =
+    let a = c .before .before .before .before .before .before .before .before .before .args in
+    let f = c .before .before .before .find2 in
+    let at = c .before .before .before .before .before .loop .at in
+    let inside = word-inside (a .key .now) (a .line .now) at (f .result) (omega arith) (f .ensures) in
+    omega (arith, key-inside (a .key .now) (a .line .now) at (f .result) (omega arith) (f .ensures) (sym (c .before .has-key .ensures) ∙ c .if1 .taken))
+
+add-t15 : tie.Need-add-t15 Inv-loop μ-loop
+add-t15 c =
+    let a = c .before .before .before .before .before .before .before .before .before .args in
+    let f = c .before .before .before .find2 in
+    let at = c .before .before .before .before .before .loop .at in
+    let inside = word-inside (a .key .now) (a .line .now) at (f .result) (omega arith) (f .ensures) in
+    omega (arith, key-inside (a .key .now) (a .line .now) at (f .result) (omega arith) (f .ensures) (sym (c .before .has-key .ensures) ∙ c .if1 .taken))
+
+returns : tie.Need-returns Inv-loop μ-loop
+unfolding shown
+returns c =
+    let line = c .before .before .before .before .before .before .before .before .before .args .line .now in
+    let key = c .before .before .before .before .before .before .before .before .before .args .key .now in
+    let l = c .before .before .before .before .before .loop in
+    let f = c .before .before .before .find2 in
+    let hit = sym (c .before .has-key .ensures) ∙ c .if1 .taken in
+    let far = key-inside key line (l .at) (f .result) (omega arith) (f .ensures) hit in
+    record {
+      values = l .inv .1 ∙ values-hit key line (l .at) (f .result) (omega arith) (f .ensures) (l .inv .2 (omega arith)) hit;
+      ordered = omega arith;
+      inside = word-inside key line (l .at) (f .result) (omega arith) (f .ensures);
+      onward = λ ok. omega arith;
+    }
+
+loop-less : tie.Need-loop-less Inv-loop μ-loop
+loop-less c = omega (arith, c .before .before .before .find2 .ensures)
+
+loop-again : tie.Need-loop-again Inv-loop μ-loop
+loop-again c =
+    let line = c .before .before .before .before .before .before .before .before .before .args .line .now in
+    let key = c .before .before .before .before .before .before .before .before .before .args .key .now in
+    let l = c .before .before .before .before .before .loop in
+    let f = c .before .before .before .find2 in
+    let miss = sym (c .before .has-key .ensures) ∙ c .if1 .left in (
+      omega arith,
+      l .inv .1 ∙ values-miss key line (l .at) (f .result) (omega arith) (f .ensures) (l .inv .2 (omega arith)) miss,
+      found 32 line (l .at + 1) (f .result) (f .ensures),
+    )
+
+no-span-requires : tie.Need-no-span-requires Inv-loop μ-loop
+no-span-requires c κs = tt
+
+returns-2 : tie.Need-returns-2 Inv-loop μ-loop
+unfolding shown
+returns-2 c =
+    let a = c .before .before .before .before .before .before .args in
+    let l = c .before .before .loop in
+    rw (c .no-span .ensures)
+    (record {
+      values = l .inv .1 ∙ (ap (valuesOf (a .key .now)) (items-end (a .line .now) (l .at) (omega arith)) ∙ values-none (a .key .now));
+      ordered = omega arith;
+      inside = omega arith;
+      onward = never;
+    })
+
+pub next-spec : {M : Type 1} → statement M
+next-spec =
+    tie.close
+    (tie.spec
+    Inv-loop
+    μ-loop
+    find-requires
+    loop-holds
+    add-start
+    find-requires-2
+    sub-has-key
+    part-has-key-start
+    part-has-key-end
+    has-key-requires
+    add-t14
+    add-t15
+    returns
+    loop-less
+    loop-again
+    no-span-requires
+    returns-2)

@@ -1,0 +1,118 @@
+-- The invariant: the digits from i on behind v make the number.
+use mathlib.Core.Path.{_≡_, sym, _∙_}
+use Prim.Native.Nat.{_+_, _*_, _-_, _≤_}
+use native.Mathlib.Omega.{arith}
+use lib.ListN.{length, drop, getD}
+use borrow.Author.Tests.{lt-ltb, le-ltb, le-leb, lt-leb}
+use Rattle.replay_script.specs.Values.{numberIn, numberFrom, digitOf}
+use Rattle.replay_script.proofs.Laws.{number-none, number-some, number-turn, number-end, over, under}
+use Rattle.replay_script.proofs.values.number_in.Statement.{statement}
+use Rattle.replay_script.proofs.values.number_in.Tie as tie
+
+abbrev Inv-loop : tie.InvT-loop
+Inv-loop s base most v₀ i₀ v i = (i ≤ length s) × (numberIn base most s ≡ numberFrom base most v (drop i s))
+
+abbrev μ-loop : tie.MeasureT-loop
+μ-loop s base most v₀ i₀ v i = length s - i
+
+returns : tie.Need-returns Inv-loop μ-loop
+returns c = sym (number-none _ _ _ (c .if1 .taken))
+
+loop-holds : tie.Need-loop-holds Inv-loop μ-loop
+loop-holds c = (omega arith, number-some _ _ _ (c .if1 .left))
+
+shared-slice-read-digit : tie.Need-shared-slice-read-digit Inv-loop μ-loop
+shared-slice-read-digit c = omega arith
+
+digit-requires : tie.Need-digit-requires Inv-loop μ-loop
+digit-requires c κs = tt
+
+wide-requires : tie.Need-wide-requires Inv-loop μ-loop
+wide-requires c κs = tt
+
+returns-2 : tie.Need-returns-2 Inv-loop μ-loop
+returns-2 c =
+    let a = c .before .before .before .before .before .before .before .before .args in
+    let l = c .before .before .before .before .before .loop in
+    let e : c .before .wide .result ≡ digitOf (getD (a .s .now) (l .i) 0) = c .before .wide .ensures ∙ c .before .before .digit .ensures in
+    rw (l .inv .1, number-turn (a .base) (a .most) (l .v) (a .s .now) (l .i) (omega arith), ← e, le-leb _ _ (c .if2 .taken))
+
+returns-3 : tie.Need-returns-3 Inv-loop μ-loop
+returns-3 c =
+    let a = c .before .before .before .before .before .before .before .before .before .args in
+    let l = c .before .before .before .before .before .before .loop in
+    let d = c .before .before .wide .result in
+    let e : d ≡ digitOf (getD (a .s .now) (l .i) 0) = c .before .before .wide .ensures ∙ c .before .before .before .digit .ensures in
+    let turn = number-turn (a .base) (a .most) (l .v) (a .s .now) (l .i) (omega arith) in
+    rw (l .inv .1, turn, ← e, lt-leb _ _ (c .before .if2 .left), lt-ltb (a .most) (l .v * a .base + d) (omega arith))
+
+div-room : tie.Need-div-room Inv-loop μ-loop
+div-room c = omega arith
+
+returns-4 : tie.Need-returns-4 Inv-loop μ-loop
+returns-4 c =
+    let a = c .before .before .before .before .before .before .before .before .before .before .args in
+    let l = c .before .before .before .before .before .before .before .loop in
+    let d = c .before .before .before .wide .result in
+    let e : d ≡ digitOf (getD (a .s .now) (l .i) 0) = c .before .before .before .wide .ensures ∙ c .before .before .before .before .digit .ensures in
+    let turn = number-turn (a .base) (a .most) (l .v) (a .s .now) (l .i) (omega arith) in
+    let past = over (a .base) (a .most) (l .v) d (omega arith) (c .before .if3 .left) (c .if4 .taken) in
+    rw (l .inv .1, turn, ← e, lt-leb _ _ (c .before .before .if2 .left), lt-ltb (a .most) (l .v * a .base + d) past)
+
+mul-v : tie.Need-mul-v Inv-loop μ-loop
+mul-v c =
+    let a = c .before .before .before .before .before .before .before .before .before .before .args in
+    let l = c .before .before .before .before .before .before .before .loop in
+    let d = c .before .before .before .wide .result in
+    omega (arith, under (a .base) (a .most) (l .v) d (omega arith) (c .before .if3 .left) (c .if4 .left))
+
+add-v : tie.Need-add-v Inv-loop μ-loop
+add-v c =
+    let a = c .before .before .before .before .before .before .before .before .before .before .args in
+    let l = c .before .before .before .before .before .before .before .loop in
+    let d = c .before .before .before .wide .result in
+    omega (arith, under (a .base) (a .most) (l .v) d (omega arith) (c .before .if3 .left) (c .if4 .left))
+
+add-i : tie.Need-add-i Inv-loop μ-loop
+add-i c = omega arith
+
+loop-less : tie.Need-loop-less Inv-loop μ-loop
+loop-less c = omega arith
+
+loop-again : tie.Need-loop-again Inv-loop μ-loop
+loop-again c =
+    let a = c .before .before .before .before .before .before .before .before .before .before .args in
+    let l = c .before .before .before .before .before .before .before .loop in
+    let d = c .before .before .before .wide .result in
+    let e : d ≡ digitOf (getD (a .s .now) (l .i) 0) = c .before .before .before .wide .ensures ∙ c .before .before .before .before .digit .ensures in
+    let turn = number-turn (a .base) (a .most) (l .v) (a .s .now) (l .i) (omega arith) in
+    let fits = under (a .base) (a .most) (l .v) d (omega arith) (c .before .if3 .left) (c .if4 .left) in
+    (omega arith, l .inv .1 ∙ rw (turn, ← e, lt-leb _ _ (c .before .before .if2 .left), le-ltb (a .most) (l .v * a .base + d) fits))
+
+returns-5 : tie.Need-returns-5 Inv-loop μ-loop
+returns-5 c =
+    let a = c .before .before .before .before .args in
+    let l = c .before .loop in
+    sym (l .inv .1 ∙ number-end (a .base) (a .most) (l .v) (a .s .now) (l .i) (omega arith))
+
+pub number-in-spec : {M : Type 1} → statement M
+number-in-spec =
+    tie.close
+    (tie.spec
+    Inv-loop
+    μ-loop
+    returns
+    loop-holds
+    shared-slice-read-digit
+    digit-requires
+    wide-requires
+    returns-2
+    returns-3
+    div-room
+    returns-4
+    mul-v
+    add-v
+    add-i
+    loop-less
+    loop-again
+    returns-5)

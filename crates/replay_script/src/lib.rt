@@ -1,0 +1,196 @@
+// Reading a line of a script: the name of a call, then items `key=value`, each behind one space.
+pub mod lists;
+pub mod values;
+
+use frames::Id;
+use frames::ProbeFrame;
+use phones::ShortId;
+use state::Car;
+use state::Kind;
+use state::Method;
+ghost use mathlib.Core.Path.{_≡_};
+ghost use Prim.Native.Nat.{_+_};
+ghost use lib.ListN.{length, drop};
+ghost use Rattle.replay_script.specs.Words.{before, itemsOf};
+ghost use Rattle.replay_script.specs.Places.{hasKey, noSpan, Next, Only};
+
+pub enum Number {
+    Given(u64),
+    NoNumber,
+}
+
+pub enum Flag {
+    Yes,
+    No,
+    NoFlag,
+}
+
+// How bytes may be written: as pairs of hexadecimal digits alone, or as text too.
+pub enum Written {
+    Hex,
+    HexOrText,
+}
+
+// The place after the bytes that were laid down.
+pub enum Laid {
+    To(usize),
+    NoBytes,
+}
+
+pub enum CanId {
+    Is(Id),
+    NoId,
+}
+
+// Eight bytes, or none (and zeros).
+pub struct Data {
+    pub ok: bool,
+    pub bytes: [u8; 8],
+}
+
+// A car's digest, or the word none; not `ok`: neither.
+pub struct CarItem {
+    pub ok: bool,
+    pub car: Car,
+}
+
+// The methods of a new gate: the first eight, and how many there are; not `ok`: one is not of its form.
+pub struct Methods {
+    pub ok: bool,
+    pub list: [Method; 8],
+    pub count: usize,
+}
+
+// The frames of a probe: the first four, and how many there are; not `ok`: one is not of its form.
+pub struct ProbeFrames {
+    pub ok: bool,
+    pub list: [ProbeFrame; 4],
+    pub count: usize,
+}
+
+// A part of a line, from `start` to before `end`; not `ok`: there is none.
+struct Span {
+    ok: bool,
+    start: usize,
+    end: usize,
+}
+
+// The places of the two slashes of a value of three parts; not `ok`: it has not three.
+struct Slashes {
+    ok: bool,
+    one: usize,
+    two: usize,
+}
+
+struct IdItem {
+    ok: bool,
+    id: ShortId,
+}
+
+enum KindItem {
+    Of(Kind),
+    NoKind,
+}
+
+struct MethodItem {
+    ok: bool,
+    method: Method,
+}
+
+struct FrameItem {
+    ok: bool,
+    frame: ProbeFrame,
+}
+
+fn no_span() -> Span
+    ensures { λ r. ⌜ r ≡ noSpan ⌝ }
+{
+    Span {
+        ok: false,
+        start: 0,
+        end: 0,
+    }
+}
+
+// The place of the first `b` at or after `from`; the end if there is none.
+pub fn find(s: &[u8], from: usize, b: u8) -> usize
+    ensures { λ r. ⌜ r ≡ from + before b (drop from (now (s .entry))) ⌝ }
+{
+    let mut i = from;
+    while i < s.len() {
+        if s[i] == b {
+            return i;
+        }
+        i += 1;
+    }
+    i
+}
+
+// The place after the call's name.
+pub fn name_end(line: &[u8]) -> usize
+    ensures { λ r. ⌜ r ≡ before 32 (now (line .entry)) ⌝ }
+{
+    find(line, 0, b' ')
+}
+
+// How many items there are, of their form or not.
+pub fn items(line: &[u8]) -> usize
+    ensures { λ r. ⌜ r ≡ length (itemsOf (now (line .entry))) ⌝ }
+{
+    let mut n = 0;
+    let mut at = find(line, 0, b' ');
+    while at < line.len() {
+        n += 1;
+        at = find(line, at + 1, b' ');
+    }
+    n
+}
+
+// Whether a word is the key, `=` and anything.
+fn has_key(word: &[u8], key: &[u8]) -> bool
+    ensures { λ r. ⌜ r ≡ hasKey (now (key .entry)) (now (word .entry)) ⌝ }
+{
+    let n = key.len();
+    if n < word.len() {
+        if word[n] == b'=' {
+            return arrays::same_bytes(&word[..n], key);
+        }
+    }
+    false
+}
+
+// The value of the next item with this key behind the word at `from`.
+fn next(line: &[u8], from: usize, key: &[u8]) -> Span
+    ensures { λ r. ⌜ Next (now (line .entry)) from (now (key .entry)) r ⌝ }
+{
+    let mut at = find(line, from, b' ');
+    while at < line.len() {
+        let start = at + 1;
+        let end = find(line, start, b' ');
+        if has_key(&line[start..end], key) {
+            return Span {
+                ok: true,
+                start: start + key.len() + 1,
+                end,
+            };
+        }
+        at = end;
+    }
+    no_span()
+}
+
+// The value of the only item with this key.
+fn item(line: &[u8], key: &[u8]) -> Span
+    ensures { λ r. ⌜ Only (now (line .entry)) (now (key .entry)) r ⌝ }
+{
+    let none = no_span();
+    let first = next(line, 0, key);
+    if first.ok {
+        let second = next(line, first.end, key);
+        if second.ok {
+            return none;
+        }
+        return first;
+    }
+    none
+}
