@@ -7,7 +7,7 @@ mod source;
 mod timing;
 mod work;
 
-use timing::{Pair, Plan, alternate, best};
+use timing::{Pair, Plan, alone, alternate, best};
 use work::{RIGHT, WRONG, Work, bytes};
 
 fn main() {
@@ -77,4 +77,6 @@ fn calls(plan: Plan, work: &Work) {
     line("restore", &pair);
     let pair = alternate(plan, &|n| proved::encodes(work, n), &|n| source::encodes(work, n));
     line("encode", &pair);
+    let floor = best(&alone(plan, &|n| proved::floors(work, n)));
+    println!("{:<40} {:>7} {:>7} {:>11.1} {:>11}", "floor", "-", "-", floor * 1e9, "-");
 }

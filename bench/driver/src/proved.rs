@@ -57,6 +57,14 @@ unsafe extern "C" {
         method: *const u8,
         method_len: usize,
     ) -> u32;
+    fn timed_floors(
+        n: u64,
+        car: *const [u8; 32],
+        record: *const u8,
+        record_len: usize,
+        method: *const u8,
+        method_len: usize,
+    ) -> u32;
 }
 
 // SAFETY, for each call below: the pointers are those of live slices with their lengths, and the functions have no
@@ -137,6 +145,19 @@ pub fn restores(work: &Work, n: u64) -> u32 {
 pub fn encodes(work: &Work, n: u64) -> u32 {
     unsafe {
         timed_encodes(
+            n,
+            &work.car,
+            work.record.as_ptr(),
+            work.record.len(),
+            METHOD.as_ptr(),
+            METHOD.len(),
+        )
+    }
+}
+
+pub fn floors(work: &Work, n: u64) -> u32 {
+    unsafe {
+        timed_floors(
             n,
             &work.car,
             work.record.as_ptr(),

@@ -34,6 +34,12 @@ pub fn alternate(plan: Plan, proved: &dyn Fn(u64) -> u32, other: &dyn Fn(u64) ->
     pair
 }
 
+/// Rounds of the proved side by itself.
+pub fn alone(plan: Plan, proved: &dyn Fn(u64) -> u32) -> Vec<f64> {
+    let turns = turns_for(plan, proved);
+    (0..plan.rounds).map(|_| turn(proved, turns)).collect()
+}
+
 #[repr(C)]
 struct Time {
     seconds: i64,

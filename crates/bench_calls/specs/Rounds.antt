@@ -1,11 +1,14 @@
 -- The rounds: a call as `step` defines it, many times over, and the sum over what was seen.
 use mathlib.Core.List.{List}
-use Prim.Native.Nat.{ℕ, zero, suc}
+use Prim.Native.Nat.{ℕ, zero, suc, _%_}
+use lib.ListN.{replicate}
 use Rattle.frames.specs.declared.CanFrame.{CanFrame}
 use Rattle.frames.specs.declared.TxClass.{TxClass}
 use Rattle.phones.specs.declared.PhoneList.{PhoneList}
 use Rattle.state.specs.declared.Gate.{Gate}
 use Rattle.state.specs.declared.Outcome.{Outcome}
+use Rattle.state.specs.declared.Answer.the-variants.{Done}
+use Rattle.state.specs.Replies.{noSignals}
 use Rattle.answers.specs.Query.{Reply, plain, approval, access, phones, trust, peer, phoneAccess, methods, challenge, saved, encodePhoneValidations}
 use Rattle.definition.specs.Gate.{Given, given, step, startValidation, submitValidationCode, onLists, onCore, ask, allowCanTx, restorePhoneValidations}
 use Rattle.bench_calls.specs.declared.held.Run.{Run}
@@ -43,6 +46,13 @@ allowed frame class owner r i = after (r .sum) (step (r .gate) (onCore (allowCan
 
 abbrev pub restored : List ℕ → Run → ℕ → Run
 restored bytes r i = after (r .sum) (step (r .gate) (onLists (restorePhoneValidations bytes))) i
+
+-- the least that a call does: other digits, and nothing raised
+abbrev pub least : Gate → ℕ → Outcome
+least g i = record { answer = Done; signals = noSignals; gate = record { core = g .core; phones = g .phones; code = replicate 9 (i % 256) } }
+
+abbrev pub floored : Run → ℕ → Run
+floored r i = after (r .sum) (given (least (r .gate) i)) i
 
 -- the same after a query, which raises nothing
 abbrev pub heard : ℕ → Given → ℕ → Run

@@ -4,6 +4,9 @@ pub mod held;
 pub mod seen;
 
 use held::Run;
+use state::Answer;
+use state::Gate;
+use state::Outcome;
 ghost use mathlib.Core.Path.{_≡_};
 ghost use Rattle.car_digest.specs.CarDigest.{carDigest};
 ghost use Rattle.bench_calls.specs.Held.{ready, frame, classOf};
@@ -127,6 +130,41 @@ pub extern "C" fn timed_restores(n: u64, car: &[u8; 32], bytes: &[u8], method: &
     let mut i = 0;
     while i < n {
         let o = gate_phones::restore_phone_validations(g, bytes);
+        sum = seen::after(sum, o, i);
+        let next = o.gate;
+        g = next;
+        i += 1;
+    }
+    sum
+}
+
+// The least that a call does: the gate comes out, with other digits, and an answer and signals beside it.
+fn least(g: Gate, i: u64) -> Outcome
+    ensures { λ r. ⌜ r ≡ Rounds.least g i ⌝ }
+{
+    let digit = (i % 256) as u8;
+    let code = [digit; 9];
+    let mut gate = g;
+    gate.code = code;
+    let signals = state::replies::no_signals();
+    Outcome {
+        answer: Answer::Done,
+        signals,
+        gate,
+    }
+}
+
+// `n` times the least that a call does: the floor of the rows above.
+#[no_mangle]
+pub extern "C" fn timed_floors(n: u64, car: &[u8; 32], bytes: &[u8], method: &[u8]) -> u32
+    ensures { λ r. ⌜ r ≡ sumOf Rounds.floored (ready (now (car .entry)) (now (bytes .entry)) (now (method .entry))) n ⌝ }
+{
+    let digest = *car;
+    let mut g = held::ready(digest, bytes, method);
+    let mut sum = 0;
+    let mut i = 0;
+    while i < n {
+        let o = least(g, i);
         sum = seen::after(sum, o, i);
         let next = o.gate;
         g = next;

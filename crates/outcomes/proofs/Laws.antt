@@ -6,19 +6,21 @@ use Prim.Native.Nat.{ℕ}
 use Rattle.phones.specs.Ids.{Left, stays, becomes, afterwards}
 use Rattle.phones.proofs.Laws.{phones-of-list}
 use Rattle.state.specs.declared.Validations.{Validations}
+use Rattle.state.specs.declared.Phones.{Phones}
 use Rattle.state.specs.declared.Gate.{Gate}
 use Rattle.state.specs.declared.Said.{Said}
 use Rattle.state.specs.declared.Ended.{Ended}
 use Rattle.state.specs.declared.Listed.{Listed}
 use Rattle.state.specs.declared.Outcome.{Outcome}
-use Rattle.state.specs.declared.Answer.{Answer}
 use Rattle.state.specs.declared.Answer.the-variants.{BadSettings}
-use Rattle.state.specs.Replies.{noS, sentS, nothingRaised, sending, noSignals, noCode}
-use Rattle.state.specs.View.{Store, Listing, view, storeIn, listsIn, laidStore, listedIn}
+use Rattle.state.specs.Replies.{noS, nothingRaised, sending, leave, noCode, codeAt, showing}
+use Rattle.state.specs.View.{Store, View, Listing, view, storeIn, listsIn, listsStay, laidStore, listedIn}
 use Rattle.range.specs.Range.{inRange}
 use Rattle.answers.specs.Query.{plain}
-use Rattle.definition.specs.Gate.{SessionCall, ListCall, CoreCall, Call, onSession, onLists, onCore, Says, saying, ofCore, ofSession, ofLists, asked, served, ended, listing, said, fullFor, says, left, gives, packed, step, given}
-use Rattle.validations.specs.Store.{recordFor}
+use Rattle.can_access.specs.declared.Approved.{Approved}
+use Rattle.validation.specs.Calls.{unvalidated}
+use Rattle.definition.specs.Gate.{SessionCall, ListCall, CoreCall, onSession, onLists, onCore, saying, ofCore, ofSession, ofApproval, ofLists, asked, served, ended, listing, said, fullFor, says, left, gives, packed, step, given}
+use Rattle.outcomes.specs.Served.{outOfRange, saidOn, endedOn, approvedOn, listedOn}
 use Rattle.outcomes.specs.Settled.{put, storedIf, Settles}
 
 -- the store that is left holds what becomes of it
@@ -28,14 +30,15 @@ store-after v (becomes s) = rw (phones-of-list (s .phones))
 
 -- ---- what is put together
 
-pub put-core : (g : Gate) (drawn : List ℕ) (o : Said) → given (put g drawn o noS) ≡ gives packed g (ofCore (view g) drawn o)
+pub put-core : (g : Gate) (drawn : List ℕ) (o : Said)
+    → given (put (g .code) drawn o (g .phones) (sending (showing (codeAt (g .code) drawn (o .shows)) (o .raised)) noS)) ≡ gives packed g (ofCore (view g) drawn o)
 unfolding put gives saying left view
 put-core g drawn o = refl
 
-pub put-stored : (g : Gate) (o : Said) (v : Validations) (x : Left Store) → v ≡ laidStore (g .phones .store) x
-    → given (put (record { core = g .core; phones = record { paired = g .phones .paired; store = v }; code = g .code }) noCode o (sentS (recordFor (storeIn v)))) ≡ gives packed g (saying (view g) noCode o true x)
+pub put-stored : (g : Gate) (o : Said) (stores : Bool) (v : Validations) (x : Left Store) → v ≡ laidStore (g .phones .store) x
+    → given (put (g .code) noCode o (record { paired = g .phones .paired; store = v }) (sending (showing (codeAt (g .code) noCode (o .shows)) (o .raised)) (storedIf stores (storeIn v)))) ≡ gives packed g (saying (view g) noCode o stores x)
 unfolding put gives saying left view
-put-stored g o v x e = rw (e, store-after (g .phones .store) x)
+put-stored g o stores v x e = rw (e, store-after (g .phones .store) x)
 
 pub put-lists : (g : Gate) (d : Listing) (x : Listed) → x ≡ listedIn (g .phones) d
     → given (record { answer = x .answer; signals = sending (x .raised) (storedIf (x .stores) (storeIn (x .phones .store))); gate = record { core = g .core; phones = x .phones; code = g .code } })
@@ -43,39 +46,65 @@ pub put-lists : (g : Gate) (d : Listing) (x : Listed) → x ≡ listedIn (g .pho
 unfolding gives left view
 put-lists g d x e = rw (e, store-after (g .phones .store) (d .store))
 
-pub put-none : (g : Gate) (r : Answer) → given (record { answer = r; signals = noSignals; gate = g }) ≡ gives packed g (asked (view g) (plain r))
-unfolding gives left view noSignals nothingRaised
-put-none g r = refl
+-- ---- 25 before what is said, or in it
+
+module _ (v : View) where
+  core-or : (b : Bool) (drawn : List ℕ) (o : Said) → cond b (ofCore v drawn o) (asked v (plain BadSettings)) ≡ ofCore v drawn (cond b o (outOfRange (v .core)))
+  unfolding saying leave nothingRaised
+  core-or true drawn o = refl
+  core-or false drawn o = refl
+
+  session-or : (b : Bool) (e : Ended) → cond b (ofSession v e) (asked v (plain BadSettings)) ≡ ofSession v (cond b e (unvalidated (outOfRange (v .core))))
+  unfolding saying leave nothingRaised
+  session-or true e = refl
+  session-or false e = refl
+
+  approval-or : (b : Bool) (a : Approved) → cond b (ofApproval v a) (asked v (plain BadSettings)) ≡ ofApproval v (cond b a (record { said = outOfRange (v .core); empties = false }))
+  unfolding saying leave nothingRaised
+  approval-or true a = refl
+  approval-or false a = refl
+
+  lists-or : (b : Bool) (d : Listing) → cond b (ofLists v d) (asked v (plain BadSettings)) ≡ ofLists v (cond b d (listsStay nothingRaised BadSettings))
+  unfolding listsStay
+  lists-or true d = refl
+  lists-or false d = refl
+
+laid-or : (p : Phones) (b : Bool) (d e : Listing) → cond b (listedIn p d) (listedIn p e) ≡ listedIn p (cond b d e)
+laid-or p true d e = refl
+laid-or p false d e = refl
 
 -- ---- what a call gives
 
-module _ (g : Gate) (t : Bool) (e : t ≡ inRange (view g)) where
-  -- a gate in range is served
-  pub serves : (s : Says) → t ≡ true → served (view g) s ≡ s
-  unfolding served
-  serves s h = rw (← e, h)
-
-  refuses : (s : Says) → t ≡ false → served (view g) s ≡ asked (view g) (plain BadSettings)
-  unfolding served
-  refuses s h = rw (← e, h)
-
+module _ (g : Gate) where
   -- an operation on the core
-  pub by-core : (k : CoreCall) (o : Said) (r : Outcome) → t ≡ true → o ≡ said (g .core) (listsIn (g .phones)) k → given r ≡ gives packed g (ofCore (view g) noCode o) → given r ≡ step g (onCore k)
+  pub by-said : (drawn : List ℕ) (p o : Said) (r : Outcome) → p ≡ saidOn (view g) o → given r ≡ gives packed g (ofCore (view g) drawn p)
+      → given r ≡ gives packed g (served (view g) (ofCore (view g) drawn o))
+  unfolding served saidOn
+  by-said drawn p o r f z = z ∙ ap (λ (t : Said). gives packed g (ofCore (view g) drawn t)) f ∙ sym (ap (gives packed g) (core-or (view g) (inRange (view g)) drawn o))
+
+  pub by-core : (k : CoreCall) (o p : Said) (r : Outcome) → o ≡ said (g .core) (listsIn (g .phones)) k → p ≡ saidOn (view g) o → given r ≡ gives packed g (ofCore (view g) noCode p) → given r ≡ step g (onCore k)
   unfolding step says view
-  by-core k o r h f z = rw (serves (ofCore (view g) noCode (said (g .core) (listsIn (g .phones)) k)) h, ← f) z
+  by-core k o p r f q z = by-said noCode p (said (g .core) (listsIn (g .phones)) k) r (q ∙ ap (saidOn (view g)) f) z
 
   -- an operation on a session
-  pub by-session : (k : SessionCall) (o : Ended) (r : Outcome) → t ≡ true → o ≡ ended (g .core) (fullFor (view g)) k → given r ≡ gives packed g (ofSession (view g) o)
-      → given r ≡ step g (onSession k)
+  pub by-ended : (p o : Ended) (r : Outcome) → p ≡ endedOn (view g) o → given r ≡ gives packed g (ofSession (view g) p) → given r ≡ gives packed g (served (view g) (ofSession (view g) o))
+  unfolding served endedOn
+  by-ended p o r f z = z ∙ ap (λ (t : Ended). gives packed g (ofSession (view g) t)) f ∙ sym (ap (gives packed g) (session-or (view g) (inRange (view g)) o))
+
+  pub by-session : (k : SessionCall) (o p : Ended) (r : Outcome) → o ≡ ended (g .core) (fullFor (view g)) k → p ≡ endedOn (view g) o → given r ≡ gives packed g (ofSession (view g) p) → given r ≡ step g (onSession k)
   unfolding step says view
-  by-session k o r h f z = rw (serves (ofSession (view g) (ended (g .core) (fullFor (view g)) k)) h, ← f) z
+  by-session k o p r f q z = by-ended p (ended (g .core) (fullFor (view g)) k) r (q ∙ ap (endedOn (view g)) f) z
+
+  -- an approval
+  pub by-approval : (p o : Approved) (r : Outcome) → p ≡ approvedOn (view g) o → given r ≡ gives packed g (ofApproval (view g) p) → given r ≡ gives packed g (served (view g) (ofApproval (view g) o))
+  unfolding served approvedOn
+  by-approval p o r f z = z ∙ ap (λ (t : Approved). gives packed g (ofApproval (view g) t)) f ∙ sym (ap (gives packed g) (approval-or (view g) (inRange (view g)) o))
 
   -- an operation on the lists
-  pub by-lists : (k : ListCall) (x : Listed) (r : Outcome) → t ≡ true → x ≡ listedIn (g .phones) (listing (listsIn (g .phones)) (g .core .settings .bonded) k) → Settles g x r → given r ≡ step g (onLists k)
-  unfolding step says view
-  by-lists k x r h f z = rw (serves (ofLists (view g) (listing (listsIn (g .phones)) (g .core .settings .bonded) k)) h) (z (listing (listsIn (g .phones)) (g .core .settings .bonded) k) f)
-
-  -- 25
-  pub by-none : (k : Call) (s : Says) (r : Outcome) → t ≡ false → says (view g) k ≡ served (view g) s → given r ≡ gives packed g (asked (view g) (plain BadSettings)) → given r ≡ step g k
-  unfolding step
-  by-none k s r h f z = rw (f, refuses s h) z
+  pub by-lists : (k : ListCall) (x p : Listed) (r : Outcome) → x ≡ listedIn (g .phones) (listing (listsIn (g .phones)) (g .core .settings .bonded) k) → p ≡ listedOn g x → Settles g p r → given r ≡ step g (onLists k)
+  unfolding step says served listedOn view
+  by-lists k x p r f q z =
+      let b = inRange (view g) in
+      let d = listing (listsIn (g .phones)) (g .core .settings .bonded) k in
+      let none = listsStay nothingRaised BadSettings in
+      z (cond b d none) (q ∙ ap (listedOn g) f ∙ laid-or (g .phones) b d none) ∙ sym (ap (gives packed g) (lists-or (view g) b d))

@@ -1,23 +1,97 @@
 // What a call gives, put together from what its operation says: the gate that it leaves, and its signals. S is made here and
-// nowhere else, of the store that is left.
+// nowhere else, of the store that is left. On a gate out of range the operation counts as one that answers 25 and leaves all as it is.
+// A gate is put together from its parts, each copied once.
 use can_access::Approved;
 use state::Answer;
+use state::Core;
 use state::Ended;
 use state::Gate;
 use state::Listed;
 use state::Outcome;
+use state::Phones;
+use state::Raised;
 use state::Said;
+use state::Signals;
 use state::Validations;
 use state::ValidationsSignal;
 ghost use mathlib.Core.Path.{_≡_};
 ghost use Rattle.state.specs.declared.Answer.the-variants.{BadSettings};
-ghost use Rattle.state.specs.Replies.{noCode, sentS};
-ghost use Rattle.state.specs.View.{view, storeIn};
+ghost use Rattle.state.specs.Replies.{nothingRaised, noCode, sentS, codeAt, showing};
+ghost use Rattle.state.specs.View.{view, storeIn, laidStore, listsStay, listedIn};
 ghost use Rattle.validations.specs.Store.{recordFor};
-ghost use Rattle.answers.specs.Query.{plain};
-ghost use Rattle.definition.specs.Gate.{ofCore, ofSession, ofApproval, asked, gives, packed, given};
+ghost use Rattle.definition.specs.Gate.{validates, empties, ofCore, ofSession, ofApproval, gives, packed, given};
+ghost use Rattle.outcomes.specs.Served.{saidOn, endedOn, approvedOn, listedOn, outOfRange};
 ghost use Rattle.outcomes.specs.Settled.{storedIf, Stores, Settles};
 ghost use Rattle.outcomes.specs.Settled as Settled;
+
+// 25, as an operation on the core says it.
+pub fn out_of_range(core: Core) -> Said
+    ensures { λ r. ⌜ r ≡ outOfRange core ⌝ }
+{
+    state::replies::leave(core, Answer::BadSettings)
+}
+
+// What an operation on the core says of a gate in range; otherwise 25.
+pub fn said_on(g: Gate, said: Said) -> Said
+    ensures { λ r. ⌜ r ≡ saidOn (view g) said ⌝ }
+{
+    if range::in_range(g) {
+        return said;
+    }
+    let core = g.core;
+    out_of_range(core)
+}
+
+// The same of a session's call.
+pub fn ended_on(g: Gate, e: Ended) -> Ended
+    ensures { λ r. ⌜ r ≡ endedOn (view g) e ⌝ }
+{
+    if range::in_range(g) {
+        return e;
+    }
+    let core = g.core;
+    let said = out_of_range(core);
+    validation::ends::unvalidated(said)
+}
+
+// The same of an approval.
+pub fn approved_on(g: Gate, a: Approved) -> Approved
+    ensures { λ r. ⌜ r ≡ approvedOn (view g) a ⌝ }
+{
+    if range::in_range(g) {
+        return a;
+    }
+    let core = g.core;
+    let said = out_of_range(core);
+    Approved {
+        said,
+        empties: false,
+    }
+}
+
+// 25, as an operation on the lists gives it.
+pub fn lists_out_of_range(phones: Phones) -> Listed
+    ensures { λ r. ⌜ r ≡ listedIn phones (listsStay nothingRaised BadSettings) ⌝ }
+{
+    let raised = state::replies::nothing_raised();
+    Listed {
+        answer: Answer::BadSettings,
+        raised,
+        stores: false,
+        phones,
+    }
+}
+
+// The same of an operation on the lists.
+pub fn listed_on(g: Gate, x: Listed) -> Listed
+    ensures { λ r. ⌜ r ≡ listedOn g x ⌝ }
+{
+    if range::in_range(g) {
+        return x;
+    }
+    let phones = g.phones;
+    lists_out_of_range(phones)
+}
 
 // S, with the record of a store.
 fn stored(v: Validations) -> ValidationsSignal
@@ -27,97 +101,30 @@ fn stored(v: Validations) -> ValidationsSignal
     ValidationsSignal { sent: true, stored }
 }
 
-// 25: a gate out of range stays as it is.
-pub fn unserved(g: Gate) -> Outcome
-    ensures { λ r. ⌜ given r ≡ gives packed g (asked (view g) (plain BadSettings)) ⌝ }
+// What is sent but S: the digits are put where the operation marks them; `drawn` are those that the call drew.
+fn raised_by(held: [u8; 9], drawn: [u8; 9], said: Said) -> Raised
+    ensures { λ r. ⌜ r ≡ showing (codeAt held drawn (said .shows)) (said .raised) ⌝ }
 {
-    let signals = state::replies::no_signals();
-    Outcome {
-        answer: Answer::BadSettings,
-        signals,
-        gate: g,
-    }
-}
-
-// The digits are put where the operation marks them; `drawn` are those that the call drew.
-fn put(g: Gate, drawn: [u8; 9], said: Said, stored: ValidationsSignal) -> Outcome
-    ensures { λ r. ⌜ r ≡ Settled.put g drawn said stored ⌝ }
-{
-    let held = g.code;
     let shows = said.shows;
     let digits = state::replies::code_at(held, drawn, shows);
     let told = said.raised;
-    let raised = state::replies::showing(digits, told);
-    let signals = state::replies::sending(raised, stored);
+    state::replies::showing(digits, told)
+}
+
+// The gate with these lists, and with the digits where the operation marks them.
+fn put(held: [u8; 9], drawn: [u8; 9], said: Said, phones: Phones, signals: Signals) -> Outcome
+    ensures { λ r. ⌜ r ≡ Settled.put held drawn said phones signals ⌝ }
+{
     let mark = said.code;
     let code = state::replies::code_at(held, drawn, mark);
     let core = said.core;
-    let mut gate = g;
-    gate.core = core;
-    gate.code = code;
+    let gate = Gate { core, phones, code };
     let answer = said.answer;
     Outcome {
         answer,
         signals,
         gate,
     }
-}
-
-// What an operation on the core says, where the call drew digits: the lists stay.
-pub fn drew(g: Gate, drawn: [u8; 9], said: Said) -> Outcome
-    ensures { λ r. ⌜ given r ≡ gives packed g (ofCore (view g) drawn said) ⌝ }
-{
-    let none = state::replies::no_stored();
-    put(g, drawn, said, none)
-}
-
-// The same of a call that draws none.
-pub fn settled(g: Gate, said: Said) -> Outcome
-    ensures { λ r. ⌜ given r ≡ gives packed g (ofCore (view g) noCode said) ⌝ }
-{
-    let none = [0u8; 9];
-    drew(g, none, said)
-}
-
-// The same with a store that is sent.
-fn settled_with(g: Gate, said: Said, store: Validations) -> Outcome
-    ensures { λ r. ⌜ Stores g said store r ⌝ }
-{
-    let s = stored(store);
-    let none = [0u8; 9];
-    let mut phones = g.phones;
-    phones.store = store;
-    let mut gate = g;
-    gate.phones = phones;
-    put(gate, none, said, s)
-}
-
-// What an operation on a session says: where it succeeds, its phone is validated for its car.
-pub fn ended(g: Gate, e: Ended) -> Outcome
-    ensures { λ r. ⌜ given r ≡ gives packed g (ofSession (view g) e) ⌝ }
-{
-    let said = e.said;
-    if e.validates {
-        let session = said.core.validation.session;
-        let car = session.car;
-        let phone = session.phone;
-        let before = g.phones.store;
-        let store = validations::validate(before, car, phone);
-        return settled_with(g, said, store);
-    }
-    settled(g, said)
-}
-
-// What an approval says.
-pub fn approved(g: Gate, a: Approved) -> Outcome
-    ensures { λ r. ⌜ given r ≡ gives packed g (ofApproval (view g) a) ⌝ }
-{
-    let said = a.said;
-    if a.empties {
-        let store = validations::no_validations();
-        return settled_with(g, said, store);
-    }
-    settled(g, said)
 }
 
 // S, if it is sent.
@@ -130,6 +137,83 @@ fn stored_if(stores: bool, v: Validations) -> ValidationsSignal
     state::replies::no_stored()
 }
 
+// What an operation on the core says, where the call drew digits: the lists stay.
+pub fn drew(g: Gate, drawn: [u8; 9], said: Said) -> Outcome
+    ensures { λ r. ⌜ given r ≡ gives packed g (ofCore (view g) drawn said) ⌝ }
+{
+    let held = g.code;
+    let raised = raised_by(held, drawn, said);
+    let none = state::replies::no_stored();
+    let signals = state::replies::sending(raised, none);
+    let phones = g.phones;
+    put(held, drawn, said, phones, signals)
+}
+
+// The same of a call that draws none.
+pub fn settled(g: Gate, said: Said) -> Outcome
+    ensures { λ r. ⌜ given r ≡ gives packed g (ofCore (view g) noCode said) ⌝ }
+{
+    let none = [0u8; 9];
+    drew(g, none, said)
+}
+
+// The same with this store, which is sent or not.
+fn settled_with(g: Gate, said: Said, stores: bool, store: Validations) -> Outcome
+    ensures { λ r. ⌜ Stores g said stores store r ⌝ }
+{
+    let held = g.code;
+    let none = [0u8; 9];
+    let raised = raised_by(held, none, said);
+    let s = stored_if(stores, store);
+    let signals = state::replies::sending(raised, s);
+    let paired = g.phones.paired;
+    let phones = Phones { paired, store };
+    put(held, none, said, phones, signals)
+}
+
+// The store after a session's call: where it succeeds, its phone is validated for its car.
+fn validated_by(v: Validations, e: Ended) -> Validations
+    ensures { λ r. ⌜ r ≡ laidStore v (validates (storeIn v) (e .said .core .validation .session) (e .validates)) ⌝ }
+{
+    if e.validates {
+        let session = e.said.core.validation.session;
+        let car = session.car;
+        let phone = session.phone;
+        return validations::validate(v, car, phone);
+    }
+    v
+}
+
+// What an operation on a session says.
+pub fn ended(g: Gate, e: Ended) -> Outcome
+    ensures { λ r. ⌜ given r ≡ gives packed g (ofSession (view g) e) ⌝ }
+{
+    let before = g.phones.store;
+    let store = validated_by(before, e);
+    let said = e.said;
+    settled_with(g, said, e.validates, store)
+}
+
+// The store after an approval.
+fn emptied_by(v: Validations, a: Approved) -> Validations
+    ensures { λ r. ⌜ r ≡ laidStore v (empties (a .empties)) ⌝ }
+{
+    if a.empties {
+        return validations::no_validations();
+    }
+    v
+}
+
+// What an approval says.
+pub fn approved(g: Gate, a: Approved) -> Outcome
+    ensures { λ r. ⌜ given r ≡ gives packed g (ofApproval (view g) a) ⌝ }
+{
+    let before = g.phones.store;
+    let store = emptied_by(before, a);
+    let said = a.said;
+    settled_with(g, said, a.empties, store)
+}
+
 // What an operation on the lists gives.
 pub fn listed(g: Gate, x: Listed) -> Outcome
     ensures { λ r. ⌜ Settles g x r ⌝ }
@@ -139,8 +223,9 @@ pub fn listed(g: Gate, x: Listed) -> Outcome
     let s = stored_if(x.stores, store);
     let raised = x.raised;
     let signals = state::replies::sending(raised, s);
-    let mut gate = g;
-    gate.phones = phones;
+    let core = g.core;
+    let code = g.code;
+    let gate = Gate { core, phones, code };
     let answer = x.answer;
     Outcome {
         answer,

@@ -52,15 +52,6 @@ pub fn id_is(p: ShortId, s: &[u8]) -> bool
     arrays::same_bytes(&bytes[..used], s)
 }
 
-// Whether two ids are the same byte string.
-pub fn same_as(p: ShortId, q: ShortId) -> bool
-    ensures { λ r. ⌜ r ≡ sameBytes (idBytes p) (idBytes q) ⌝ }
-{
-    let bytes = q.bytes;
-    let n = clamp(q.len);
-    id_is(p, &bytes[..n])
-}
-
 // A byte string as an id.
 pub fn make_id(s: &[u8]) -> MadeId
     ensures { λ r. ⌜ r ≡ madeId (now (s .entry)) ⌝ }

@@ -212,8 +212,8 @@ pub struct ApprovalSignal {
 
 // VALIDATIONS_TO_STORE: the record to store; of length 0: erase.
 pub struct ValidationsSignal {
-    pub sent: bool,
     pub stored: SavedRecord,
+    pub sent: bool,
 }
 
 // ValidationChallenge: none, or the running session's number and method, and its digits. `length` is their number, 0 for
@@ -232,13 +232,14 @@ pub struct ChallengeSignal {
     pub challenge: Challenge,
 }
 
-// The last value that a call sent on each channel: CAN_ACCESS_CHANGED, the availability's CHANGED, and those above.
+// The last value that a call sent on each channel: CAN_ACCESS_CHANGED, the availability's CHANGED, and those above. The record stands
+// first, so that one that is not sent is set to zeros in its place, and not copied there.
 pub struct Signals {
+    pub validations: ValidationsSignal,
     pub access: bool,
     pub availability: bool,
     pub readonly: ReadOnlySignal,
     pub approval: ApprovalSignal,
-    pub validations: ValidationsSignal,
     pub challenge: ChallengeSignal,
 }
 

@@ -1,7 +1,8 @@
-use mathlib.Core.Path.{refl}
+use mathlib.Core.Path.{ap, _∙_}
 use Rattle.state.specs.View.{view}
-use Rattle.definition.specs.Gate.{approveCanReadWrite, says, step}
-use Rattle.outcomes.proofs.Laws.{serves, by-none}
+use Rattle.definition.specs.Gate.{says, step}
+use Rattle.outcomes.specs.Served.{approvedOn}
+use Rattle.outcomes.proofs.Laws.{by-approval}
 use Rattle.gate_access.proofs.approve_can_read_write.Statement.{statement}
 use Rattle.gate_access.proofs.approve_can_read_write.Tie as tie
 
@@ -10,8 +11,6 @@ unfolding step says view
 approve-can-read-write-spec =
     tie.close
     (tie.spec (λ c κs. tt) (λ c κs. tt) (λ c κs. tt) (λ c κs. tt)
-    (λ c. let a = c .before .before .before .before .before .before .before .before .args in
-    rw (serves (a .g) _ (c .before .before .before .before .before .before .before .in-range .ensures) _ (c .before .before .before .before .before .before .if1 .taken), ← c .before .before .is-of-other-car .ensures, ← c .before .approve-can-read-write .ensures)
-    (c .approved .ensures))
-    (λ c κs. tt)
-    (λ c. by-none (c .before .before .before .args .g) _ (c .before .before .in-range .ensures) approveCanReadWrite _ _ (c .before .if1 .left) refl (c .unserved .ensures)))
+    (λ c. let a = c .before .before .before .before .before .before .before .args in
+    rw (← c .before .before .before .is-of-other-car .ensures)
+    (by-approval (a .g) _ _ _ (c .before .approved-on .ensures ∙ ap (approvedOn (view (a .g))) (c .before .before .approve-can-read-write .ensures)) (c .approved .ensures))))

@@ -1,6 +1,5 @@
-use mathlib.Core.Path.{refl}
-use Rattle.definition.specs.Gate.{setCanDevWriteUnlocked, onCore, said, says}
-use Rattle.outcomes.proofs.Laws.{by-core, by-none}
+use Rattle.definition.specs.Gate.{setCanDevWriteUnlocked, said, says}
+use Rattle.outcomes.proofs.Laws.{by-core}
 use Rattle.gate_access.proofs.set_can_dev_write_unlocked.Statement.{statement}
 use Rattle.gate_access.proofs.set_can_dev_write_unlocked.Tie as tie
 
@@ -9,8 +8,5 @@ unfolding said says
 set-can-dev-write-unlocked-spec =
     tie.close
     (tie.spec (λ c κs. tt) (λ c κs. tt) (λ c κs. tt)
-    (λ c. let a = c .before .before .before .before .before .args in
-    by-core (a .g) _ (c .before .before .before .before .in-range .ensures) (setCanDevWriteUnlocked (a .unlocked)) _ _ (c .before .before .before .if1 .taken) (c .before .set-can-dev-write-unlocked .ensures) (c .settled .ensures))
-    (λ c κs. tt)
-    (λ c. let a = c .before .before .before .args in
-    by-none (a .g) _ (c .before .before .in-range .ensures) (onCore (setCanDevWriteUnlocked (a .unlocked))) _ _ (c .before .if1 .left) refl (c .unserved .ensures)))
+    (λ c. let a = c .before .before .before .before .args in
+    by-core (a .g) (setCanDevWriteUnlocked (a .unlocked)) _ _ _ (c .before .before .set-can-dev-write-unlocked .ensures) (c .before .said-on .ensures) (c .settled .ensures)))

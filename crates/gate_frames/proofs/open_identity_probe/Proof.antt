@@ -1,6 +1,5 @@
-use mathlib.Core.Path.{refl}
-use Rattle.definition.specs.Gate.{openIdentityProbe, onCore, said, says}
-use Rattle.outcomes.proofs.Laws.{by-core, by-none}
+use Rattle.definition.specs.Gate.{openIdentityProbe, said, says}
+use Rattle.outcomes.proofs.Laws.{by-core}
 use Rattle.gate_frames.proofs.open_identity_probe.Statement.{statement}
 use Rattle.gate_frames.proofs.open_identity_probe.Tie as tie
 
@@ -9,8 +8,5 @@ unfolding said says
 open-identity-probe-spec =
     tie.close
     (tie.spec (λ c κs. tt) (λ c κs. tt) (λ c κs. tt)
-    (λ c. let a = c .before .before .before .before .before .args in
-    by-core (a .g) _ (c .before .before .before .before .in-range .ensures) (openIdentityProbe (a .bus) (a .frames) (a .count) (a .clock)) _ _ (c .before .before .before .if1 .taken) (c .before .open-identity-probe .ensures) (c .settled .ensures))
-    (λ c κs. tt)
-    (λ c. let a = c .before .before .before .args in
-    by-none (a .g) _ (c .before .before .in-range .ensures) (onCore (openIdentityProbe (a .bus) (a .frames) (a .count) (a .clock))) _ _ (c .before .if1 .left) refl (c .unserved .ensures)))
+    (λ c. let a = c .before .before .before .before .args in
+    by-core (a .g) (openIdentityProbe (a .bus) (a .frames) (a .count) (a .clock)) _ _ _ (c .before .before .open-identity-probe .ensures) (c .before .said-on .ensures) (c .settled .ensures)))

@@ -1,6 +1,5 @@
-use mathlib.Core.Path.{refl}
-use Rattle.definition.specs.Gate.{clearPairedPhones, onLists, listing, says}
-use Rattle.outcomes.proofs.Laws.{by-lists, by-none}
+use Rattle.definition.specs.Gate.{clearPairedPhones, listing, says}
+use Rattle.outcomes.proofs.Laws.{by-lists}
 use Rattle.gate_phones.proofs.clear_paired_phones.Statement.{statement}
 use Rattle.gate_phones.proofs.clear_paired_phones.Tie as tie
 
@@ -9,8 +8,5 @@ unfolding listing says
 clear-paired-phones-spec =
     tie.close
     (tie.spec (λ c κs. tt) (λ c κs. tt) (λ c κs. tt)
-    (λ c. let a = c .before .before .before .before .before .args in
-    by-lists (a .g) _ (c .before .before .before .before .in-range .ensures) clearPairedPhones _ _ (c .before .before .before .if1 .taken) (c .before .clear-paired-phones .ensures) (c .listed .ensures))
-    (λ c κs. tt)
-    (λ c. let a = c .before .before .before .args in
-    by-none (a .g) _ (c .before .before .in-range .ensures) (onLists clearPairedPhones) _ _ (c .before .if1 .left) refl (c .unserved .ensures)))
+    (λ c. let a = c .before .before .before .before .args in
+    by-lists (a .g) clearPairedPhones _ _ _ (c .before .before .clear-paired-phones .ensures) (c .before .listed-on .ensures) (c .listed .ensures)))

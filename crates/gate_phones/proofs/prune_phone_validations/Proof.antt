@@ -1,6 +1,5 @@
-use mathlib.Core.Path.{refl}
-use Rattle.definition.specs.Gate.{prunePhoneValidations, onLists, listing, says}
-use Rattle.outcomes.proofs.Laws.{by-lists, by-none}
+use Rattle.definition.specs.Gate.{prunePhoneValidations, listing, says}
+use Rattle.outcomes.proofs.Laws.{by-lists}
 use Rattle.gate_phones.proofs.prune_phone_validations.Statement.{statement}
 use Rattle.gate_phones.proofs.prune_phone_validations.Tie as tie
 
@@ -9,8 +8,5 @@ unfolding listing says
 prune-phone-validations-spec =
     tie.close
     (tie.spec (λ c κs. tt) (λ c κs. tt) (λ c κs. tt)
-    (λ c. let a = c .before .before .before .before .before .args in
-    by-lists (a .g) _ (c .before .before .before .before .in-range .ensures) prunePhoneValidations _ _ (c .before .before .before .if1 .taken) (c .before .prune-phone-validations .ensures) (c .listed .ensures))
-    (λ c κs. tt)
-    (λ c. let a = c .before .before .before .args in
-    by-none (a .g) _ (c .before .before .in-range .ensures) (onLists prunePhoneValidations) _ _ (c .before .if1 .left) refl (c .unserved .ensures)))
+    (λ c. let a = c .before .before .before .before .args in
+    by-lists (a .g) prunePhoneValidations _ _ _ (c .before .before .prune-phone-validations .ensures) (c .before .listed-on .ensures) (c .listed .ensures)))

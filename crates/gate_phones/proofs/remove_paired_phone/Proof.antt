@@ -1,6 +1,5 @@
-use mathlib.Core.Path.{refl}
-use Rattle.definition.specs.Gate.{removePairedPhone, onLists, listing, says}
-use Rattle.outcomes.proofs.Laws.{by-lists, by-none}
+use Rattle.definition.specs.Gate.{removePairedPhone, listing, says}
+use Rattle.outcomes.proofs.Laws.{by-lists}
 use Rattle.gate_phones.proofs.remove_paired_phone.Statement.{statement}
 use Rattle.gate_phones.proofs.remove_paired_phone.Tie as tie
 
@@ -9,8 +8,5 @@ unfolding listing says
 remove-paired-phone-spec =
     tie.close
     (tie.spec (λ c κs. tt) (λ c κs. tt) (λ c κs. tt)
-    (λ c. let a = c .before .before .before .before .before .before .args in
-    by-lists (a .g) _ (c .before .before .before .before .in-range .ensures) (removePairedPhone (a .id .now)) _ _ (c .before .before .before .if1 .taken) (c .before .remove-paired-phone .ensures) (c .listed .ensures))
-    (λ c κs. tt)
-    (λ c. let a = c .before .before .before .before .args in
-    by-none (a .g) _ (c .before .before .in-range .ensures) (onLists (removePairedPhone (a .id .now))) _ _ (c .before .if1 .left) refl (c .unserved .ensures)))
+    (λ c. let a = c .before .before .before .before .before .args in
+    by-lists (a .g) (removePairedPhone (a .id .now)) _ _ _ (c .before .before .remove-paired-phone .ensures) (c .before .listed-on .ensures) (c .listed .ensures)))
