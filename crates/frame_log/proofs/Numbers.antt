@@ -12,7 +12,7 @@ use Rattle.arrays.proofs.Laws.{both}
 use Rattle.decimal.specs.Decimal.{digitsUpTo, decimalOf}
 use Rattle.hex.specs.Hex.{digit, hexOf}
 use Rattle.hex.proofs.Laws.{value-digit, hex-length}
-use Rattle.replay_script.specs.Words.{before}
+use Rattle.word_table.specs.Words.{before}
 use Rattle.replay_script.specs.Values.{valueOr16, digitOf, numberFrom, numberIn, allDigits, isHex, pairsOf, idWith, idIn, dataIn}
 use Rattle.replay_script.specs.declared.CanId.the-variants.{NoId}
 use Rattle.replay_script.specs.declared.Number.{Number}

@@ -9,7 +9,7 @@ use borrow.Author.Tests.{le-ltb}
 use lib.Dec.{ltb}
 use lib.ListN.{length, take, drop, length-append, length-take, take-append-drop}
 use Rattle.arrays.specs.Arrays.{put}
-use Rattle.arrays.proofs.Laws.{put-take, put-length, cond-same}
+use Rattle.arrays.proofs.Laws.{put-take, put-length}
 use Rattle.decimal.proofs.Laws.{decimal-length}
 use Rattle.hex.specs.Hex.{digit}
 use Rattle.hex.proofs.Laws.{hex-length}
@@ -22,12 +22,16 @@ use Rattle.frame_log.specs.Lines.{joined, digitAt, hexDigits, hexadecima
 use Rattle.frame_log.specs.Walk.{Laid, lay, front, back}
 
 -- nothing laid down leaves the page
+nil-by : (t : Bool) (p q r : Page) → r ≡ p → cond t p (cond t q r) ≡ p
+nil-by true p q r e = refl
+nil-by false p q r e = e
+
 text-nil : (p : Page) → text [] p ≡ p
 unfolding text put
 text-nil p =
     let m = p .memory in
-    let e : _≡_ {A = Page} (page (take (p .place) m ++ [] ++ drop (p .place + 0) m) (p .place + 0)) p = rw (add-zero, append-nil, take-append-drop) in
-    ap (λ (q : Page). cond (ltb (length m) (p .place + 0)) p q) e ∙ cond-same (ltb (length m) (p .place + 0)) p
+    let e : _≡_ {A = Page} (page (take (p .place) m ++ [] ++ drop (p .place) m) (p .place)) p = rw (append-nil, take-append-drop) in
+    rw (add-zero (p .place)) (nil-by (ltb (length m) (p .place)) p (page m (length m + 1)) _ e)
 
 -- one text more
 pub laid-text : (n : ℕ) (p : Page) (t s : List ℕ) → Laid n p t → length t + length s ≤ n → Laid n (text s p) (t ++ s)
@@ -40,7 +44,7 @@ laid-text n p t s h k =
     let l = length-append t s in
     let e : length (t ++ s) ≡ p .place + length s = omega arith in
     let f : take (p .place) m ≡ t = ap (λ (k : ℕ). take k m) q ∙ h .front in
-    rw (le-ltb (length m) (p .place + length s) fits) (record {
+    rw (le-ltb (length m) (p .place) (omega arith), le-ltb (length m) (p .place + length s) fits) (record {
       room = put-length m (p .place) s fits ∙ r;
       place = sym e;
       front = ap (λ (k : ℕ). take k (put m (p .place) s)) e ∙ (put-take m (p .place) s fits ∙ ap (λ (x : List ℕ). x ++ s) f);

@@ -14,7 +14,7 @@ use Rattle.arrays.specs.Arrays.{padded}
 use Rattle.arrays.proofs.Laws.{padded-push}
 use Rattle.frames.specs.declared.CanFrame.{CanFrame}
 use Rattle.matcher.specs.Match.{Entry, entry}
-use Rattle.replay_script.specs.Words.{before, onto}
+use Rattle.word_table.specs.Words.{before, onto}
 use Rattle.frame_log.specs.declared.LineEntry.{LineEntry}
 use Rattle.frame_log.specs.declared.LogAnswer.the-variants.{Read, BadLine, TimeBack, TooManyLines}
 use Rattle.frame_log.specs.declared.ReadLog.{ReadLog}

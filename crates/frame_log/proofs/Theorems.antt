@@ -18,7 +18,7 @@ use Rattle.frames.specs.Frames.{rawOf, canIdInRange}
 use Rattle.frames.specs.declared.Id.{Id}
 use Rattle.frames.specs.declared.Id.the-variants.{Standard, Extended}
 use Rattle.matcher.specs.Match.{Entry, entry}
-use Rattle.replay_script.specs.Words.{before}
+use Rattle.word_table.specs.Words.{before}
 use Rattle.replay_script.specs.Values.{digitOf, numberIn, allDigits, isHex, pairsOf, idIn, idWith, dataIn}
 use Rattle.replay_script.proofs.Laws.{number-most, pairs-length}
 use Rattle.replay_script.specs.declared.CanId.{CanId}

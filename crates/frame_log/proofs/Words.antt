@@ -9,8 +9,8 @@ use borrow.Author.Tests.{ne-eqb}
 use lib.Dec.{eqb}
 use lib.ListN.{length, take, drop, length-append, length-drop, drop-of-length-le}
 use lib.Seq.{take-all, drop-drop, take-at, drop-at, drop-append-add}
-use Rattle.replay_script.specs.Words.{before}
-use Rattle.replay_script.proofs.Laws.{before-le}
+use Rattle.word_table.specs.Words.{before}
+use Rattle.word_table.proofs.Laws.{before-le}
 use Rattle.frame_log.specs.Guess.{behind, rest}
 
 -- no b stands in s

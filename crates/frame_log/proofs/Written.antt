@@ -15,7 +15,7 @@ use Rattle.frames.specs.declared.Id.{Id}
 use Rattle.frames.specs.declared.Id.the-variants.{Standard, Extended}
 use Rattle.matcher.specs.Match.{Entry}
 use Rattle.matcher.proofs.Times.{Rising}
-use Rattle.replay_script.specs.Words.{before, onto}
+use Rattle.word_table.specs.Words.{before, onto}
 use Rattle.frame_log.specs.Lines.{joined, hexadecimalOf, kindOf, lineOf, InForm}
 use Rattle.frame_log.specs.Logs.{linesOf, read, lineRead, readFrom, reading}
 use Rattle.frame_log.proofs.Pages.{joined-append}

@@ -11,7 +11,7 @@ use Rattle.frames.specs.declared.Id.{Id}
 use Rattle.frames.specs.declared.Id.the-variants.{Standard}
 use Rattle.frames.specs.declared.CanFrame.{CanFrame}
 use Rattle.matcher.specs.Match.{Entry, entry}
-use Rattle.replay_script.specs.Words.{before}
+use Rattle.word_table.specs.Words.{before}
 use Rattle.replay_script.specs.Values.{numberIn, idIn, dataIn}
 use Rattle.replay_script.specs.declared.CanId.{CanId}
 use Rattle.replay_script.specs.declared.CanId.the-variants.{Is, NoId}

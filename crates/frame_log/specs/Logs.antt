@@ -8,7 +8,7 @@ use Rattle.arrays.specs.Arrays.{padded}
 use Rattle.frames.specs.declared.CanFrame.{CanFrame}
 use Rattle.matcher.specs.Match.{Entry, entry}
 use Rattle.matcher.specs.declared.FrameLog.{FrameLog}
-use Rattle.replay_script.specs.Words.{onto}
+use Rattle.word_table.specs.Words.{onto}
 use Rattle.frame_log.specs.declared.LineEntry.{LineEntry}
 use Rattle.frame_log.specs.declared.LogAnswer.{LogAnswer}
 use Rattle.frame_log.specs.declared.LogAnswer.the-variants.{Read, BadLine, TimeBack, TooManyLines}

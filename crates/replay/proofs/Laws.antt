@@ -11,20 +11,15 @@ use lib.ListN.{length, take, drop, drop-of-length-le, length-append}
 use lib.Seq.{append-snoc, drop-cons, drop-drop, length-take-le}
 use Rattle.arrays.specs.Arrays.{put}
 use Rattle.arrays.proofs.Laws.{put-take, put-length}
-use Rattle.replay_calls.specs.Calls.{Line as Said, call, counters, state, unknown, lineOf}
-use Rattle.replay_items.specs.Bytes.{bytesOf}
-use Rattle.replay_items.specs.Items.{readOf}
-use Rattle.replay_items.specs.Takes.{takes}
 use Rattle.replay_lines.specs.Page.{Page, page}
-use Rattle.replay_player.specs.Played as Played
-use Rattle.replay_player.specs.Played.{begun, failed, firstWord, playedAs, played, stated, withState, passedOver}
-use Rattle.replay_names.specs.Names.{rows}
-use Rattle.replay_script.specs.Words.{before}
+use Rattle.replay_lines.specs.Room.{Within}
+use Rattle.replay_player.specs.Played.{played, withState, passedOver, tooLong}
+use Rattle.replay_player.proofs.Laws.{played-host, state-host}
+use Rattle.word_table.specs.Words.{before}
 use Rattle.replay_script.proofs.Laws.{found}
-use Rattle.state.specs.declared.Gate.{Gate}
-use Rattle.replay_steps.specs.Turns.{Turn, laid, ran}
-use Rattle.word_table.specs.Words.{placeIn}
-use Rattle.replay.specs.Script.{keptLen, keptIn, Line, short, long, lineIn, plus, lineGives, gateAfter, Reading, ended, grown, read, readingOf, nextLine}
+use Rattle.replay_steps.specs.Turns.{Turn}
+use Rattle.replay_steps.specs.declared.Host.{Host}
+use Rattle.replay.specs.Script.{keptLen, keptIn, Line, short, long, lineIn, plus, lineGives, hostAfter, Reading, ended, grown, read, readingOf, nextLine}
 use Rattle.replay.specs.declared.Replay.{Replay}
 
 -- ---- a part of a line
@@ -37,48 +32,31 @@ first-length n s h = sym (length-take-le n s h)
 pub first-room : (n room : ℕ) (s : List ℕ) → n ≤ length s → length s ≤ room → length (take n s) ≤ room
 first-room n room s h k = omega (arith, length-take-le n s h)
 
--- ---- the gate after a line
+-- ---- room
 
-ran-gate : (l : Said) (g : Gate) (p q : Page) → ran l g p .gate ≡ ran l g q .gate
-unfolding laid
-ran-gate (call c) g p q = refl
-ran-gate (counters next relocks) g p q = refl
-ran-gate state g p q = refl
-ran-gate unknown g p q = refl
+-- what fits ends inside the memory
+pub inside : (n : ℕ) (f : Page → Page) → Within n f → (before after : List ℕ) (k : ℕ) → page after k ≡ f (page before 0) → n ≤ length before → k ≤ length after
+inside n f u before after k e h =
+    let x = u .fits (page before 0) (omega arith) in
+    let a : k ≡ f (page before 0) .place = ap (λ (p : Page). p .place) e in
+    let b : length after ≡ length (f (page before 0) .memory) = ap (λ (p : Page). length (p .memory)) e in
+    omega arith
 
-played-by : (t : Bool) (l : Said) (name : ℕ) (g : Gate) (n : ℕ) (w : List ℕ) (p q : Page)
-    → cond t (Played.ended (ran l g (begun n w p))) (Played.ended (failed name g n p)) .gate
-    ≡ cond t (Played.ended (ran l g (begun n w q))) (Played.ended (failed name g n q)) .gate
-unfolding Played.ended failed
-played-by true l name g n w p q = ran-gate l g (begun n w p) (begun n w q)
-played-by false l name g n w p q = refl
+-- ---- the host after a line
 
-played-gate : (g : Gate) (n : ℕ) (s : List ℕ) (p q : Page) → played g n s p .gate ≡ played g n s q .gate
-unfolding played playedAs
-played-gate g n s p q =
-    let name = placeIn rows (firstWord s) in
-    played-by (takes name (readOf s)) (lineOf name (readOf s) (bytesOf s)) name g n (firstWord s) p q
+gives-by : (t states : Bool) (h : Host) (n : ℕ) (s : List ℕ) (p q : Page)
+    → cond t (record { host = h; page = p; called = false }) (withState states n (played h n s p)) .host
+    ≡ cond t (record { host = h; page = q; called = false }) (withState false n (played h n s q)) .host
+gives-by true states h n s p q = refl
+gives-by false states h n s p q = state-host states n (played h n s p) ∙ (played-host h n s p q ∙ sym (state-host false n (played h n s q)))
 
-state-by : (t : Bool) (n : ℕ) (r : Turn) → cond t (stated n r) r .gate ≡ r .gate
-unfolding stated Played.ended
-state-by true n r = refl
-state-by false n r = refl
+gives-host : (states : Bool) (h : Host) (n : ℕ) (l : Line) (p : Page) → lineGives states h n l p .host ≡ hostAfter h n l
+unfolding hostAfter
+gives-host states h n (short s) p = gives-by (passedOver s) states h n s p (page [] 0)
+gives-host states h n long p = refl
 
-state-gate : (states : Bool) (n : ℕ) (r : Turn) → withState states n r .gate ≡ r .gate
-unfolding withState
-state-gate true n r = state-by (r .called) n r
-state-gate false n r = refl
-
-gives-by : (t states : Bool) (g : Gate) (n : ℕ) (s : List ℕ) (p q : Page)
-    → cond t (record { gate = g; page = p; called = false }) (withState states n (played g n s p)) .gate
-    ≡ cond t (record { gate = g; page = q; called = false }) (withState false n (played g n s q)) .gate
-gives-by true states g n s p q = refl
-gives-by false states g n s p q = state-gate states n (played g n s p) ∙ (played-gate g n s p q ∙ sym (state-gate false n (played g n s q)))
-
-pub gives-gate : (states : Bool) (g : Gate) (n : ℕ) (l : Line) (p : Page) → lineGives states g n l p .gate ≡ gateAfter g n l
-unfolding gateAfter
-gives-gate states g n (short s) p = gives-by (passedOver s) states g n s p (page [] 0)
-gives-gate states g n long p = refl
+pub after-line : (states : Bool) (h : Host) (n : ℕ) (l : Line) (p : Page) (t : Turn) → t ≡ lineGives states h n l p → t .host ≡ hostAfter h n l
+after-line states h n l p t e = rw e (gives-host states h n l p)
 
 -- ---- bytes behind a line
 
@@ -142,7 +120,7 @@ kept-line m more len = kept-by (ltb (length m) len) m more len refl
 -- ---- the bytes before the first 10
 
 abbrev behind : ℕ → List ℕ → Reading → Reading
-behind room bs r = record { gate = r .gate; number = r .number; line = added room bs (r .line) }
+behind room bs r = record { host = r .host; number = r .number; line = added room bs (r .line) }
 
 read-by : (room b k : ℕ) (bs : List ℕ) (r : Reading) (t : Bool) → eqb b 10 ≡ t
     → ((s : Reading) → read room bs s ≡ read room (drop k bs) (behind room (take k bs) s))
@@ -183,17 +161,17 @@ line-none : (m : List ℕ) → lineIn m 0 ≡ short []
 unfolding lineIn
 line-none m = rw (le-ltb (length m) 0 (omega arith))
 
-module _ (s m w : List ℕ) (from e : ℕ) (at : e ≡ from + before 10 (drop from s)) (g : Gate) (n len k room : ℕ) (far : length m ≡ room)
+module _ (s m w : List ℕ) (from e : ℕ) (at : e ≡ from + before 10 (drop from s)) (host : Host) (n len k room : ℕ) (far : length m ≡ room)
     (kept : (k ≡ keptLen m len (take (e - from) (drop from s))) × (w ≡ keptIn m len (take (e - from) (drop from s)))) where
   grown-line : added room (take (e - from) (drop from s)) (lineIn m len) ≡ lineIn w k
   grown-line = rw (← far, kept .0, kept .1) (sym (kept-line m (take (e - from) (drop from s)) len))
 
-  pub piece-end : length s ≤ e → read room (drop from s) (record { gate = g; number = n; line = lineIn m len }) ≡ record { gate = g; number = n; line = lineIn w k }
-  piece-end h = read-end room s from e at (record { gate = g; number = n; line = lineIn m len }) h ∙ rw grown-line
+  pub piece-end : length s ≤ e → read room (drop from s) (record { host = host; number = n; line = lineIn m len }) ≡ record { host = host; number = n; line = lineIn w k }
+  piece-end h = read-end room s from e at (record { host = host; number = n; line = lineIn m len }) h ∙ rw grown-line
 
-  pub piece-on : (r : Replay) (going : Bool) → r ≡ nextLine n (gateAfter g n (lineIn w k)) going → e < length s
-      → read room (drop from s) (record { gate = g; number = n; line = lineIn m len }) ≡ read room (drop (e + 1) s) (readingOf r w)
+  pub piece-on : (r : Replay) (going : Bool) → r ≡ nextLine n (hostAfter host n (lineIn w k)) going → e < length s
+      → read room (drop from s) (record { host = host; number = n; line = lineIn m len }) ≡ read room (drop (e + 1) s) (readingOf r w)
   unfolding ended
   piece-on r going q h =
-      read-on room s from e at (record { gate = g; number = n; line = lineIn m len }) h
+      read-on room s from e at (record { host = host; number = n; line = lineIn m len }) h
       ∙ rw (grown-line, q, line-none w)

@@ -8,8 +8,8 @@ use lib.ListN.{length, take}
 use Rattle.arrays.specs.Arrays.{put}
 use Rattle.replay_lines.specs.Page.{Page, page}
 use Rattle.replay_player.specs.Played.{played, withState, passedOver, tooLong}
-use Rattle.state.specs.declared.Gate.{Gate}
 use Rattle.replay_steps.specs.Turns.{Turn}
+use Rattle.replay_steps.specs.declared.Host.{Host}
 use Rattle.replay.specs.declared.Replay.{Replay}
 
 -- ---- a line in memory
@@ -36,20 +36,20 @@ abbrev pub plus : ℕ → ℕ → Line → Line
 plus room b (short s) = cond (ltb (length s) room) (short (s ++ (b ∷ []))) long
 plus room b long = long
 
--- the text that a line gives and the gate afterwards
-abbrev pub lineGives : Bool → Gate → ℕ → Line → Page → Turn
-lineGives states g n (short s) p = cond (passedOver s) (record { gate = g; page = p; called = false }) (withState states n (played g n s p))
-lineGives states g n long p = record { gate = g; page = tooLong n p; called = false }
+-- the text that a line gives and what the host holds afterwards
+abbrev pub lineGives : Bool → Host → ℕ → Line → Page → Turn
+lineGives states h n (short s) p = cond (passedOver s) (record { host = h; page = p; called = false }) (withState states n (played h n s p))
+lineGives states h n long p = record { host = h; page = tooLong n p; called = false }
 
--- the gate afterwards, which hangs neither on what is printed nor on the memory for it
-unfoldable pub gateAfter : Gate → ℕ → Line → Gate
-gateAfter g n l = lineGives false g n l (page [] 0) .gate
+-- what the host holds afterwards, which hangs neither on what is printed nor on the memory for it
+unfoldable pub hostAfter : Host → ℕ → Line → Host
+hostAfter h n l = lineGives false h n l (page [] 0) .host
 
 -- ---- a script
 
--- the gate, the number of the line that is being read, and what is there of it
+-- the host, the number of the line that is being read, and what is there of it
 pub record Reading : Type 0 where
-  pub gate : Gate
+  pub host : Host
   pub number : ℕ
   pub line : Line
 
@@ -58,10 +58,10 @@ nextNumber n = (n + 1) % 2 ^ 64
 
 -- the line has ended
 unfoldable pub ended : Reading → Reading
-ended r = record { gate = gateAfter (r .gate) (r .number) (r .line); number = nextNumber (r .number); line = short [] }
+ended r = record { host = hostAfter (r .host) (r .number) (r .line); number = nextNumber (r .number); line = short [] }
 
 unfoldable pub grown : ℕ → ℕ → Reading → Reading
-grown room b r = record { gate = r .gate; number = r .number; line = plus room b (r .line) }
+grown room b r = record { host = r .host; number = r .number; line = plus room b (r .line) }
 
 -- a line ends with the byte 10
 unfoldable pub read : ℕ → List ℕ → Reading → Reading
@@ -76,7 +76,7 @@ pub record ReadOn (room : ℕ) (before after : Reading) : Type 0 where
 -- ---- what the code keeps
 
 abbrev pub readingOf : Replay → List ℕ → Reading
-readingOf p memory = record { gate = p .gate; number = p .number; line = lineIn memory (p .len) }
+readingOf p memory = record { host = p .host; number = p .number; line = lineIn memory (p .len) }
 
-abbrev pub nextLine : ℕ → Gate → Bool → Replay
-nextLine n g going = record { gate = g; number = nextNumber n; len = 0; going = going }
+abbrev pub nextLine : ℕ → Host → Bool → Replay
+nextLine n h going = record { host = h; number = nextNumber n; len = 0; going = going }

@@ -1,24 +1,25 @@
-// Reads a script on standard input, plays it on one gate and prints what each line gives; with the argument `--state` also
+// Reads a script on standard input, plays it on the host's gate and prints what each line gives; with the argument `--state` also
 // the gate's state after each call. What is printed of a line is `replay_player::play` of it. What a program reads and writes is open
 // to a contract; `run` and `main` give nothing back.
 use libc::STDERR_FILENO;
 use libc::STDIN_FILENO;
 use libc::STDOUT_FILENO;
+use replay_steps::Host;
 use replay_steps::Played;
-use state::Gate;
 ghost use mathlib.Core.Bool.{true};
 ghost use mathlib.Core.Path.{_≡_};
 ghost use Prim.Native.Nat.{_≤_};
 ghost use lib.ListN.{length};
 ghost use Rattle.replay_lines.specs.Page.{page};
+ghost use Rattle.replay_player.specs.Played.{lineRoom};
 ghost use Rattle.replay_steps.specs.Turns.{turnOf};
 ghost use Rattle.replay.specs.Arguments.{askedBy};
-ghost use Rattle.replay.specs.Script.{keptLen, keptIn, lineIn, lineGives, gateAfter, read, ReadOn, readingOf, nextLine};
+ghost use Rattle.replay.specs.Script.{keptLen, keptIn, lineIn, lineGives, hostAfter, read, ReadOn, readingOf, nextLine};
 
-// The gate, the number of the line that is being read, and how much of it is there; above the room for a line: it is too
+// The host, the number of the line that is being read, and how much of it is there; above the room for a line: it is too
 // long. Not `going`: the script has ended, or reading or writing failed.
 struct Replay {
-    gate: Gate,
+    host: Host,
     number: u64,
     len: usize,
     going: bool,
@@ -74,48 +75,46 @@ fn keep(line: &mut [u8], len: usize, more: &[u8]) -> usize
     len + more.len()
 }
 
-// Prints the first `at` bytes that were laid down. Whether that goes well is open; it does not if the memory has no such part.
+// Prints the first `at` bytes that were laid down. Whether that goes well is open.
 fn print(out: &[u8], at: usize) -> bool
-    ensures { λ r. ⌜ (r ≡ true → at ≤ length (now (out .entry))) ⌝ }
+    requires { ⌜ at ≤ length (now out) ⌝ }
 {
-    if at <= out.len() {
-        if io::write_all(STDOUT_FILENO, &out[..at]) {
-            return true;
-        }
-        os::fail(b"replay: standard output");
-        return false;
+    if io::write_all(STDOUT_FILENO, &out[..at]) {
+        return true;
     }
+    os::fail(b"replay: standard output");
     false
 }
 
-// Lays down what a line gives; one that is passed over gives nothing. What is left in `room` is open: nothing reads it again.
+// Lays down what a line gives, which fits; one that is passed over gives nothing. What is left in `room` is open: nothing reads it
+// again.
 fn give_line(p: Replay, line: &[u8], states: bool, room: &mut [u8], out: &mut [u8]) -> Played
-    requires { ⌜ length (now line) ≤ length (now room) ⌝ }
-    ensures { λ r. ⌜ turnOf r (now (out .exit)) ≡ lineGives states (p .gate) (p .number) (lineIn (now (line .entry)) (p .len)) (page (now (out .entry)) 0) ⌝ }
+    requires { ⌜ (length (now line) ≤ length (now room)) × (lineRoom ≤ length (now out)) ⌝ }
+    ensures { λ r. ⌜ (turnOf r (now (out .exit)) ≡ lineGives states (p .host) (p .number) (lineIn (now (line .entry)) (p .len)) (page (now (out .entry)) 0)) × (r .at ≤ length (now (out .exit))) ⌝ }
 {
     let n = p.len;
-    let g = p.gate;
+    let h = p.host;
     if line.len() < n {
         let k = replay_player::put_too_long(p.number, out);
-        return replay_steps::not_called(g, k);
+        return replay_steps::not_called(h, k);
     }
     if replay_player::is_passed_over(&line[..n]) {
-        return replay_steps::not_called(g, 0);
+        return replay_steps::not_called(h, 0);
     }
-    replay_player::play(g, p.number, &line[..n], states, room, out)
+    replay_player::play(h, p.number, &line[..n], states, room, out)
 }
 
-// Plays the line that has ended; the next one has no byte yet. Open is whether it goes on, as `print` says, and what is left
-// in `room` and `out`, which nothing reads again.
+// Plays the line that has ended; the next one has no byte yet. Open is whether it goes on, and what is left in `room` and `out`,
+// which nothing reads again.
 fn finish_line(p: Replay, line: &[u8], states: bool, room: &mut [u8], out: &mut [u8]) -> Replay
-    requires { ⌜ length (now line) ≤ length (now room) ⌝ }
-    ensures { λ r. ⌜ r ≡ nextLine (p .number) (gateAfter (p .gate) (p .number) (lineIn (now (line .entry)) (p .len))) (r .going) ⌝ }
+    requires { ⌜ (length (now line) ≤ length (now room)) × (lineRoom ≤ length (now out)) ⌝ }
+    ensures { λ r. ⌜ r ≡ nextLine (p .number) (hostAfter (p .host) (p .number) (lineIn (now (line .entry)) (p .len))) (r .going) ⌝ }
 {
     let r = give_line(p, line, states, room, out);
-    let gate = r.gate;
+    let host = r.host;
     let going = print(out, r.at);
     Replay {
-        gate,
+        host,
         number: std::num::wrapping_add_u64(p.number, 1),
         len: 0,
         going,
@@ -131,7 +130,7 @@ fn read_piece(
     room: &mut [u8],
     out: &mut [u8],
 ) -> Replay
-    requires { ⌜ length (now line) ≤ length (now room) ⌝ }
+    requires { ⌜ (length (now line) ≤ length (now room)) × (lineRoom ≤ length (now out)) ⌝ }
     ensures { λ r. ⌜ (r .going ≡ true → readingOf r (now (line .exit)) ≡ read (length (now (line .entry))) (now (piece .entry)) (readingOf p (now (line .entry)))) ⌝ }
 {
     let mut q = p;
@@ -155,7 +154,7 @@ fn read_piece(
 // Reads a piece of the script. At its end the last line is played, and then, or if reading fails, it does not go on. Which
 // bytes the piece has is open, and if it does not go on, what is left.
 fn turn(p: Replay, line: &mut [u8], states: bool, room: &mut [u8], out: &mut [u8]) -> Replay
-    requires { ⌜ length (now line) ≤ length (now room) ⌝ }
+    requires { ⌜ (length (now line) ≤ length (now room)) × (lineRoom ≤ length (now out)) ⌝ }
     ensures { λ r. ⌜ (r .going ≡ true → ReadOn (length (now (line .entry))) (readingOf p (now (line .entry))) (readingOf r (now (line .exit)))) ⌝ }
 {
     let mut piece = io::buffer();
@@ -175,11 +174,11 @@ fn turn(p: Replay, line: &mut [u8], states: bool, room: &mut [u8], out: &mut [u8
 }
 
 fn run(states: bool, line: &mut [u8], room: &mut [u8], out: &mut [u8])
-    requires { ⌜ length (now line) ≤ length (now room) ⌝ }
+    requires { ⌜ (length (now line) ≤ length (now room)) × (lineRoom ≤ length (now out)) ⌝ }
 {
-    let first = replay_player::first_gate();
+    let first = replay_player::first_host();
     let mut p = Replay {
-        gate: first,
+        host: first,
         number: 1,
         len: 0,
         going: true,
@@ -198,7 +197,7 @@ fn run(states: bool, line: &mut [u8], room: &mut [u8], out: &mut [u8])
 fn play(states: bool) {
     let mut line = [0u8; 16384];
     let mut room = [0u8; 16384];
-    let mut out = [0u8; 16384];
+    let mut out = [0u8; 49152];
     run(states, &mut line, &mut room, &mut out);
 }
 

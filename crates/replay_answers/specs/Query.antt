@@ -116,3 +116,7 @@ challenge a =
 
 unfoldable pub encoded : RecordAnswer → Page → Page
 encoded a = told (a .answer) (λ p. p ▸ text (ascii " record=") ▸ bytes (take (a .stored .len) (a .stored .bytes)))
+
+-- room for each of these answers
+abbrev pub longRoom : ℕ
+longRoom = 12288

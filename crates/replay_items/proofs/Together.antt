@@ -13,7 +13,8 @@ use Rattle.arrays.proofs.Laws.{same-bytes-is}
 use Rattle.ascii.specs.Ascii.{ascii}
 use Rattle.replay_script.specs.Places.{hasKey, valuesOf, only, itemOf}
 use Rattle.replay_script.specs.Values.{isText, isBytes, asBytes, pairsOf}
-use Rattle.replay_script.specs.Words.{before, split, onto, afterFirst, itemsOf}
+use Rattle.replay_script.specs.Words.{split, afterFirst, itemsOf}
+use Rattle.word_table.specs.Words.{before, onto}
 use Rattle.replay_script.specs.declared.Written.{Written}
 use Rattle.replay_script.specs.declared.Written.the-variants.{Hex, HexOrText}
 use Rattle.replay_script.proofs.Laws.{pairs-length}

@@ -2,4 +2,5 @@ pub mod Answer
 pub mod Fields
 pub mod Page
 pub mod Parts
+pub mod Room
 pub mod Table

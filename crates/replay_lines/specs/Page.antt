@@ -22,9 +22,12 @@ infixl 20 _▸_
 abbrev pub _▸_ : Page → (Page → Page) → Page
 p ▸ f = f p
 
--- a text; what does not fit is left out
+-- a text; one that does not fit is left out, and so is all that comes behind it: the place is then past the end
 unfoldable pub text : List ℕ → Page → Page
-text s p = cond (ltb (length (p .memory)) (p .place + length s)) p (page (put (p .memory) (p .place) s) (p .place + length s))
+text s p =
+    cond (ltb (length (p .memory)) (p .place)) p
+    (cond (ltb (length (p .memory)) (p .place + length s)) (page (p .memory) (length (p .memory) + 1))
+    (page (put (p .memory) (p .place) s) (p .place + length s)))
 
 -- a number in decimal
 abbrev pub number : ℕ → Page → Page

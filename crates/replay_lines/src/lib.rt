@@ -1,5 +1,5 @@
 // Laying down the lines that a replay prints. Each `put_` function writes over `out` from `at` on and answers the place
-// after what it wrote; what does not fit is left out.
+// after what it wrote; where something does not fit, a place past the end.
 pub mod answer;
 pub mod fields;
 pub mod key;
@@ -18,7 +18,7 @@ pub fn put_text(out: &mut [u8], at: usize, src: &[u8]) -> usize
         return at;
     }
     if out.len() - at < src.len() {
-        return at;
+        return out.len() + 1;
     }
     arrays::put(out, at, src);
     at + src.len()
@@ -49,7 +49,7 @@ pub fn put_bytes(out: &mut [u8], at: usize, src: &[u8]) -> usize
         return at;
     }
     if (out.len() - at) / 2 < src.len() {
-        return at;
+        return out.len() + 1;
     }
     hex::put_hex(out, at, src);
     at + 2 * src.len()

@@ -1,27 +1,24 @@
 -- What a line gives, put together from its parts.
 use mathlib.Core.Path.{_≡_, refl, sym}
-use mathlib.Core.Bool.{Bool, true, false}
+use mathlib.Core.Bool.{Bool, true, false, cond}
 use mathlib.Core.List.{List, [], _∷_}
 use Prim.Native.Nat.{ℕ, _≤_}
 use native.Mathlib.Omega.{arith}
 use lib.Dec.{eqb}
 use lib.ListN.{length, take, getD}
 use lib.Seq.{length-take-le}
-use Rattle.ascii.specs.Ascii.{ascii}
-use Rattle.replay_calls.specs.Calls.{lineOf}
+use Rattle.replay_calls.specs.Calls.{Line, call, counters, state, unknown, lineOf}
 use Rattle.replay_items.specs.Bytes.{Bytes, bytesOf}
 use Rattle.replay_items.specs.Items.{readOf}
 use Rattle.replay_items.specs.Takes.{takes}
 use Rattle.replay_items.specs.declared.Items.{Items}
-use Rattle.replay_lines.specs.Page.{Page, text}
+use Rattle.replay_lines.specs.Page.{Page}
 use Rattle.replay_names.specs.Names.{rows}
-use Rattle.replay_script.specs.Words.{before}
-use Rattle.replay_script.proofs.Laws.{before-le}
-use Rattle.state.specs.declared.Gate.{Gate}
-use Rattle.replay_state.specs.Whole as Whole
-use Rattle.replay_steps.specs.Turns.{Turn, ran}
-use Rattle.word_table.specs.Words.{placeIn}
-use Rattle.replay_player.specs.Played.{begun, errorOf, failed, ended, playedAs, played, stated, withState, passedOver}
+use Rattle.word_table.proofs.Laws.{before-le}
+use Rattle.replay_steps.specs.Turns.{Turn, laid, ran}
+use Rattle.replay_steps.specs.declared.Host.{Host}
+use Rattle.word_table.specs.Words.{before, placeIn}
+use Rattle.replay_player.specs.Played.{begun, failed, ended, firstWord, playedAs, played, stated, withState, passedOver}
 
 -- the first word is as long as its end says
 pub word-length : (s : List ℕ) (e : ℕ) → e ≡ before 32 s → e ≡ length (take e s)
@@ -29,23 +26,45 @@ word-length s e h =
     let le : e ≤ length s = rw h (before-le 32 s) in
     sym (length-take-le e s le)
 
-module _ (g : Gate) (n : ℕ) (line : List ℕ) (p : Page) (name : ℕ) (i : Items) (e : ℕ) (word : e ≡ before 32 line) (called : name ≡ placeIn rows (take e line)) (read : i ≡ readOf line) where
-  pub played-right : (b : Bytes) → b ≡ bytesOf line → takes name i ≡ true → ended (ran (lineOf name i b) g (begun n (take e line) p)) ≡ played g n line p
+module _ (h : Host) (n : ℕ) (line : List ℕ) (p : Page) (name : ℕ) (i : Items) (e : ℕ) (word : e ≡ before 32 line) (called : name ≡ placeIn rows (take e line)) (read : i ≡ readOf line) where
+  pub played-right : (b : Bytes) → b ≡ bytesOf line → takes name i ≡ true → (t : Turn) → t ≡ ended (ran (lineOf name i b) h (begun n (take e line) p)) → t ≡ played h n line p
   unfolding played playedAs
-  played-right b lent right = rw (← word, ← called, ← read, ← lent, right)
+  played-right b lent right t q = rw (← word, ← called, ← read, ← lent, right) q
 
-  pub played-wrong : takes name i ≡ false → ended (failed name g n p) ≡ played g n line p
+  pub played-wrong : takes name i ≡ false → (t : Turn) → t ≡ ended (failed name h n p) → t ≡ played h n line p
   unfolding played playedAs
-  played-wrong wrong = rw (← word, ← called, ← read, wrong)
+  played-wrong wrong t q = rw (← word, ← called, ← read, wrong) q
 
-module _ (n : ℕ) (g : Gate) (p : Page) where
-  pub with-state : (c : Bool) (from end last : Page) → c ≡ true → from ≡ begun n (ascii "state") p → end ≡ Whole.gate g from → last ≡ text (10 ∷ []) end → _≡_ {A = Turn} (record { gate = g; page = last; called = c }) (withState true n (record { gate = g; page = p; called = c }))
-  unfolding withState stated ended
-  with-state c from end last h f r l = rw (h, ← f, ← r, ← l)
+-- ---- the host after a line
 
-  pub no-state : (c : Bool) → c ≡ false → _≡_ {A = Turn} (record { gate = g; page = p; called = c }) (withState true n (record { gate = g; page = p; called = c }))
-  unfolding withState
-  no-state c h = rw h
+ran-host : (l : Line) (h : Host) (p q : Page) → ran l h p .host ≡ ran l h q .host
+unfolding laid
+ran-host (call c) h p q = refl
+ran-host (counters next relocks) h p q = refl
+ran-host state h p q = refl
+ran-host unknown h p q = refl
+
+played-by : (t : Bool) (l : Line) (name : ℕ) (h : Host) (n : ℕ) (w : List ℕ) (p q : Page)
+    → cond t (ended (ran l h (begun n w p))) (ended (failed name h n p)) .host
+    ≡ cond t (ended (ran l h (begun n w q))) (ended (failed name h n q)) .host
+unfolding ended failed
+played-by true l name h n w p q = ran-host l h (begun n w p) (begun n w q)
+played-by false l name h n w p q = refl
+
+pub played-host : (h : Host) (n : ℕ) (s : List ℕ) (p q : Page) → played h n s p .host ≡ played h n s q .host
+unfolding played playedAs
+played-host h n s p q =
+    let name = placeIn rows (firstWord s) in
+    played-by (takes name (readOf s)) (lineOf name (readOf s) (bytesOf s)) name h n (firstWord s) p q
+
+state-by : (t : Bool) (n : ℕ) (r : Turn) → cond t (stated n r) r .host ≡ r .host
+state-by true n r = refl
+state-by false n r = refl
+
+pub state-host : (states : Bool) (n : ℕ) (r : Turn) → withState states n r .host ≡ r .host
+unfolding withState
+state-host true n r = state-by (r .called) n r
+state-host false n r = refl
 
 -- ---- lines that are passed over
 

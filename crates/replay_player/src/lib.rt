@@ -1,7 +1,8 @@
-// Plays one line of a script on a gate: reads it, makes its call and lays down what it gives. That is `played` of
+// Plays one line of a script on the host's gate: reads it, makes its call and lays down what it gives. That is `played` of
 // specs/Played.antt, which speaks of the calls by the gate's one definition, `step`.
 use replay_items::Ends;
 use replay_items::Items;
+use replay_steps::Host;
 use replay_steps::Played;
 use state::Gate;
 use state::Settings;
@@ -12,8 +13,8 @@ ghost use Rattle.arrays.specs.Arrays.{put};
 ghost use Rattle.replay_items.specs.Bytes.{lentBytes, bytesOf, joined};
 ghost use Rattle.replay_lines.specs.Page.{page, text};
 ghost use Rattle.replay_calls.specs.Calls.{lineOf};
-ghost use Rattle.replay_steps.specs.Turns.{turnOf, ran};
-ghost use Rattle.replay_player.specs.Played.{begun, errorOf, failed, ended, played, withState, FromBadNew, passedOver, tooLong};
+ghost use Rattle.replay_steps.specs.Turns.{turnOf, ran, TurnFits};
+ghost use Rattle.replay_player.specs.Played.{begun, errorOf, failed, ended, played, stateLine, withState, PlayedFits, EveryLineFits, FromBadNew, passedOver, tooLong};
 
 // line=N call=WORD
 fn put_begin(out: &mut [u8], at: usize, number: u64, word: &[u8]) -> usize
@@ -36,7 +37,7 @@ fn put_error(out: &mut [u8], at: usize, name: usize) -> usize
 
 // A line whose items are right.
 fn play_call(
-    g: Gate,
+    h: Host,
     number: u64,
     word: &[u8],
     name: usize,
@@ -45,27 +46,27 @@ fn play_call(
     room: &[u8],
     out: &mut [u8],
 ) -> Played
-    ensures { λ r. ⌜ turnOf r (now (out .exit)) ≡ ended (ran (lineOf name i (lentBytes p (now (room .entry)))) g (begun number (now (word .entry)) (page (now (out .entry)) 0))) ⌝ }
+    ensures { λ r. ⌜ (turnOf r (now (out .exit)) ≡ ended (ran (lineOf name i (lentBytes p (now (room .entry)))) h (begun number (now (word .entry)) (page (now (out .entry)) 0)))) × TurnFits (ran (lineOf name i (lentBytes p (now (room .entry)))) h) ⌝ }
 {
     let k = put_begin(out, 0, number, word);
-    let mut r = replay_steps::run(g, name, i, p, room, out, k);
+    let mut r = replay_steps::run(h, name, i, p, room, out, k);
     r.at = replay_lines::put_text(out, r.at, b"\n");
     r
 }
 
 // A line that is no call.
-fn play_error(g: Gate, number: u64, name: usize, out: &mut [u8]) -> Played
-    ensures { λ r. ⌜ turnOf r (now (out .exit)) ≡ ended (failed name g number (page (now (out .entry)) 0)) ⌝ }
+fn play_error(h: Host, number: u64, name: usize, out: &mut [u8]) -> Played
+    ensures { λ r. ⌜ turnOf r (now (out .exit)) ≡ ended (failed name h number (page (now (out .entry)) 0)) ⌝ }
 {
     let k = replay_lines::put_item(out, 0, b"line=", number);
     let k = put_error(out, k, name);
     let k = replay_lines::put_text(out, k, b"\n");
-    replay_steps::not_called(g, k)
+    replay_steps::not_called(h, k)
 }
 
-fn play_line(g: Gate, number: u64, line: &[u8], room: &mut [u8], out: &mut [u8]) -> Played
+fn play_line(h: Host, number: u64, line: &[u8], room: &mut [u8], out: &mut [u8]) -> Played
     requires { ⌜ length (now line) ≤ length (now room) ⌝ }
-    ensures { λ r. ⌜ (turnOf r (now (out .exit)) ≡ played g number (now (line .entry)) (page (now (out .entry)) 0)) × (now (room .exit) ≡ put (now (room .entry)) 0 (joined (bytesOf (now (line .entry))))) ⌝ }
+    ensures { λ r. ⌜ (turnOf r (now (out .exit)) ≡ played h number (now (line .entry)) (page (now (out .entry)) 0)) × (now (room .exit) ≡ put (now (room .entry)) 0 (joined (bytesOf (now (line .entry))))) × PlayedFits h number (now (line .entry)) ⌝ }
 {
     let e = replay_script::name_end(line);
     let name = replay_names::name_of(&line[..e]);
@@ -73,14 +74,23 @@ fn play_line(g: Gate, number: u64, line: &[u8], room: &mut [u8], out: &mut [u8])
     let i = read.items;
     let p = read.ends;
     if replay_items::takes::takes(name, i) {
-        return play_call(g, number, &line[..e], name, i, p, room, out);
+        return play_call(h, number, &line[..e], name, i, p, room, out);
     }
-    play_error(g, number, name, out)
+    play_error(h, number, name, out)
+}
+
+// A line with the state of a gate.
+fn put_state(out: &mut [u8], at: usize, number: u64, g: Gate) -> usize
+    ensures { λ r. ⌜ page (now (out .exit)) r ≡ stateLine number g (page (now (out .entry)) at) ⌝ }
+{
+    let k = put_begin(out, at, number, b"state");
+    let k = replay_state::put_gate(out, k, g);
+    replay_lines::put_text(out, k, b"\n")
 }
 
 // The line, and the state behind every call if that is asked for.
 pub fn play(
-    g: Gate,
+    h: Host,
     number: u64,
     line: &[u8],
     states: bool,
@@ -88,21 +98,20 @@ pub fn play(
     out: &mut [u8],
 ) -> Played
     requires { ⌜ length (now line) ≤ length (now room) ⌝ }
-    ensures { λ r. ⌜ (turnOf r (now (out .exit)) ≡ withState states number (played g number (now (line .entry)) (page (now (out .entry)) 0))) × (now (room .exit) ≡ put (now (room .entry)) 0 (joined (bytesOf (now (line .entry))))) ⌝ }
+    ensures { λ r. ⌜ (turnOf r (now (out .exit)) ≡ withState states number (played h number (now (line .entry)) (page (now (out .entry)) 0))) × (now (room .exit) ≡ put (now (room .entry)) 0 (joined (bytesOf (now (line .entry))))) × EveryLineFits states h number (now (line .entry)) ⌝ }
 {
-    let mut r = play_line(g, number, line, room, out);
+    let mut r = play_line(h, number, line, room, out);
     if states {
         if r.called {
-            let k = put_begin(out, r.at, number, b"state");
-            let k = replay_state::put_gate(out, k, r.gate);
-            r.at = replay_lines::put_text(out, k, b"\n");
+            let g = r.host.gate;
+            r.at = put_state(out, r.at, number, g);
         }
     }
     r
 }
 
-// The gate before the first `new`: what 25 hands back.
-pub fn first_gate() -> Gate
+// What the host holds before the first `new`: the gate that 25 hands back.
+pub fn first_host() -> Host
     ensures { λ r. ⌜ FromBadNew r ⌝ }
 {
     let settings = Settings {
@@ -116,7 +125,8 @@ pub fn first_gate() -> Gate
     let none = state::running::no_method();
     let list = [none; 8];
     let made = gate_sessions::new_gate(settings, list, 0);
-    made.gate
+    let gate = made.gate;
+    Host { gate }
 }
 
 // Whether a line is passed over: it is empty or begins with `#`.

@@ -7,7 +7,9 @@ ghost use mathlib.Core.Path.{_≡_};
 ghost use Rattle.answers.specs.Query.{plain};
 ghost use Rattle.definition.specs.Gate.{ask, answered, step};
 ghost use Rattle.replay_items.specs.Bytes.{lentBytes};
+ghost use Rattle.replay_answers.specs.Query.{longRoom};
 ghost use Rattle.replay_lines.specs.Page.{page};
+ghost use Rattle.replay_lines.specs.Room.{Within};
 ghost use Rattle.replay_calls.specs.Calls.{plainQuery, longQuery};
 ghost use Rattle.replay_queries.specs.Shown.{shown};
 
@@ -49,7 +51,7 @@ pub fn put_long(
     out: &mut [u8],
     at: usize,
 ) -> usize
-    ensures { λ r. ⌜ page (now (out .exit)) r ≡ shown (step g (ask (longQuery name i (lentBytes p (now (room .entry))))) .answer) (page (now (out .entry)) at) ⌝ }
+    ensures { λ r. ⌜ (page (now (out .exit)) r ≡ shown (step g (ask (longQuery name i (lentBytes p (now (room .entry))))) .answer) (page (now (out .entry)) at)) × Within longRoom (shown (step g (ask (longQuery name i (lentBytes p (now (room .entry))))) .answer)) ⌝ }
 {
     match name {
         1 => replay_answers::put_access(out, at, queries::can_access_state(g)),

@@ -21,7 +21,9 @@ use Rattle.replay_script.specs.declared.Written.{Written}
 use Rattle.replay_script.specs.declared.Written.the-variants.{Hex, HexOrText}
 use Rattle.replay_script.specs.Places.{hasKey, valuesOf}
 use Rattle.replay_script.specs.Values.{digitOf, numberFrom, numberIn, allDigits, isHex, pairsOf, isText, isBytes, asBytes}
-use Rattle.replay_script.specs.Words.{before, split, afterFirst, onto, itemsOf, part}
+use Rattle.replay_script.specs.Words.{split, afterFirst, itemsOf, part}
+use Rattle.word_table.specs.Words.{before, onto}
+use Rattle.word_table.proofs.Laws.{before-le}
 
 -- ---- tests
 
@@ -41,15 +43,6 @@ pub never : {A : Type 0} → false ≡ true → A
 never e = let z : _≡_ {A = ℕ} 0 1 = cc in absurd (omega arith)
 
 -- ---- before
-
-le-by : (t : Bool) (n m : ℕ) → n ≤ m → cond t 0 (suc n) ≤ suc m
-le-by true n m h = omega arith
-le-by false n m h = omega arith
-
-pub before-le : (b : ℕ) (s : List ℕ) → before b s ≤ length s
-unfolding before
-before-le b [] = omega arith
-before-le b (x ∷ xs) = le-by (eqb x b) (before b xs) (length xs) (before-le b xs)
 
 hit-by : (b x n : ℕ) (xs : List ℕ) (t : Bool) → eqb x b ≡ t → (n < length xs → getD xs n 0 ≡ b) → cond t 0 (suc n) < suc (length xs) → getD (x ∷ xs) (cond t 0 (suc n)) 0 ≡ b
 hit-by b x n xs true e ih h = eqb-true x b e
@@ -74,10 +67,6 @@ found-le b s from e q h = omega (arith, before-le b (drop from s), length-drop f
 pub before-turn : (b : ℕ) (s : List ℕ) (i : ℕ) → i < length s → before b (drop i s) ≡ cond (eqb (getD s i 0) b) 0 (suc (before b (drop (i + 1) s)))
 unfolding before
 before-turn b s i h = rw (add-one, drop-cons s i 0 h)
-
-pub before-end : (b : ℕ) (s : List ℕ) (i : ℕ) → length s ≤ i → before b (drop i s) ≡ 0
-unfolding before
-before-end b s i h = rw (drop-of-length-le s h)
 
 -- ---- words
 

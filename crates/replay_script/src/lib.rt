@@ -11,7 +11,8 @@ use state::Method;
 ghost use mathlib.Core.Path.{_≡_};
 ghost use Prim.Native.Nat.{_+_};
 ghost use lib.ListN.{length, drop};
-ghost use Rattle.replay_script.specs.Words.{before, itemsOf};
+ghost use Rattle.replay_script.specs.Words.{itemsOf};
+ghost use Rattle.word_table.specs.Words.{before};
 ghost use Rattle.replay_script.specs.Places.{hasKey, noSpan, Next, Only};
 
 pub enum Number {

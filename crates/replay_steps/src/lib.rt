@@ -1,5 +1,5 @@
-// Makes the call that a line says on a gate, and lays down what it gives: `ran` of specs/Turns.antt, which speaks of the
-// calls by the gate's one definition, `step`.
+// Makes the call that a line says on the host's gate, and lays down what it gives: `ran` of specs/Turns.antt, which speaks of
+// the calls by the gate's one definition, `step`.
 use replay_items::Ends;
 use replay_items::Items;
 use state::Answer;
@@ -9,12 +9,20 @@ ghost use mathlib.Core.Path.{_≡_};
 ghost use Rattle.definition.specs.Gate.{given};
 ghost use Rattle.replay_items.specs.Bytes.{lentBytes};
 ghost use Rattle.replay_lines.specs.Page.{page};
+ghost use Rattle.replay_lines.specs.Room.{Within};
+ghost use Rattle.replay_signals.specs.Signals.{signals};
+ghost use Rattle.state.specs.Replies.{noSignals};
 ghost use Rattle.replay_calls.specs.Calls.{lineOf, otherLine};
-ghost use Rattle.replay_steps.specs.Turns.{turnOf, answerAlone, laid, calm, withCounters, ran, passed};
+ghost use Rattle.replay_steps.specs.Turns.{turnOf, withGate, answerAlone, laid, calm, withCounters, ran, passed, signalRoom, TurnFits};
 
-// The gate after a line, the place after what was laid down, and whether the line was a call.
-pub struct Played {
+// What the host of a script holds from line to line.
+pub struct Host {
     pub gate: Gate,
+}
+
+// The host after a line, the place after what was laid down, and whether the line was a call.
+pub struct Played {
+    pub host: Host,
     pub at: usize,
     pub called: bool,
 }
@@ -31,29 +39,38 @@ fn no_signals(g: Gate, answer: Answer) -> Outcome
     }
 }
 
-fn put_outcome(o: Outcome, out: &mut [u8], at: usize) -> Played
-    ensures { λ r. ⌜ turnOf r (now (out .exit)) ≡ laid (given o) (page (now (out .entry)) at) ⌝ }
+fn with_gate(h: Host, gate: Gate) -> Host
+    ensures { λ r. ⌜ r ≡ withGate h gate ⌝ }
+{
+    let mut next = h;
+    next.gate = gate;
+    next
+}
+
+fn put_outcome(h: Host, o: Outcome, out: &mut [u8], at: usize) -> Played
+    ensures { λ r. ⌜ (turnOf r (now (out .exit)) ≡ laid h (given o) (page (now (out .entry)) at)) × TurnFits (laid h (given o)) ⌝ }
 {
     let a = o.answer;
     let k = replay_lines::answer::put_answer(out, at, a);
     let s = o.signals;
     let k = replay_signals::put_signals(out, k, s);
     let g = o.gate;
+    let host = with_gate(h, g);
     Played {
-        gate: g,
+        host,
         at: k,
         called: true,
     }
 }
 
 // What stands behind the answer of a query.
-fn put_calm(g: Gate, out: &mut [u8], at: usize) -> Played
-    ensures { λ r. ⌜ turnOf r (now (out .exit)) ≡ calm g (page (now (out .entry)) at) ⌝ }
+fn put_calm(h: Host, out: &mut [u8], at: usize) -> Played
+    ensures { λ r. ⌜ (turnOf r (now (out .exit)) ≡ calm h (page (now (out .entry)) at)) × Within signalRoom (signals noSignals) ⌝ }
 {
     let s = state::replies::no_signals();
     let k = replay_signals::put_signals(out, at, s);
     Played {
-        gate: g,
+        host: h,
         at: k,
         called: true,
     }
@@ -80,31 +97,32 @@ fn set_counters(g: Gate, next: u32, relocks: u32) -> Gate
 }
 
 // No call was made.
-pub fn not_called(g: Gate, at: usize) -> Played
-    ensures { λ r. ⌜ r ≡ passed g at ⌝ }
+pub fn not_called(h: Host, at: usize) -> Played
+    ensures { λ r. ⌜ r ≡ passed h at ⌝ }
 {
     Played {
-        gate: g,
+        host: h,
         at,
         called: false,
     }
 }
 
 // The two lines that are no calls, by their place.
-fn run_other(g: Gate, name: usize, i: Items, out: &mut [u8], at: usize) -> Played
-    ensures { λ r. ⌜ turnOf r (now (out .exit)) ≡ ran (otherLine name i) g (page (now (out .entry)) at) ⌝ }
+fn run_other(h: Host, name: usize, i: Items, out: &mut [u8], at: usize) -> Played
+    ensures { λ r. ⌜ (turnOf r (now (out .exit)) ≡ ran (otherLine name i) h (page (now (out .entry)) at)) × TurnFits (ran (otherLine name i) h) ⌝ }
 {
+    let g = h.gate;
     match name {
         0 => {
             let n = i.numbers;
             let o = no_signals(set_counters(g, n.next.value, n.relocks.value), Answer::Done);
-            put_outcome(o, out, at)
+            put_outcome(h, o, out, at)
         }
         1 => {
             let k = replay_state::put_gate(out, at, g);
-            not_called(g, k)
+            not_called(h, k)
         }
-        _ => not_called(g, at),
+        _ => not_called(h, at),
     }
 }
 
@@ -120,7 +138,7 @@ const LONG_QUERIES: usize = 9;
 
 // Runs a line whose items are right. `name` is the number of its row; each kind counts its own from 0.
 pub fn run(
-    g: Gate,
+    h: Host,
     name: usize,
     i: Items,
     p: Ends,
@@ -128,24 +146,25 @@ pub fn run(
     out: &mut [u8],
     at: usize,
 ) -> Played
-    ensures { λ r. ⌜ turnOf r (now (out .exit)) ≡ ran (lineOf name i (lentBytes p (now (room .entry)))) g (page (now (out .entry)) at) ⌝ }
+    ensures { λ r. ⌜ (turnOf r (now (out .exit)) ≡ ran (lineOf name i (lentBytes p (now (room .entry)))) h (page (now (out .entry)) at)) × TurnFits (ran (lineOf name i (lentBytes p (now (room .entry)))) h) ⌝ }
 {
+    let g = h.gate;
     if name < PHONE_CALLS {
-        return put_outcome(replay_calls::phone_call(g, name, i, p, room), out, at);
+        return put_outcome(h, replay_calls::phone_call(g, name, i, p, room), out, at);
     }
     let can = name - PHONE_CALLS;
     if can < CAN_CALLS {
-        return put_outcome(replay_calls::can_call(g, can, i, p, room), out, at);
+        return put_outcome(h, replay_calls::can_call(g, can, i, p, room), out, at);
     }
     let plain = can - CAN_CALLS;
     if plain < PLAIN_QUERIES {
         let a = replay_queries::plain_query(g, plain, i, p, room);
-        return put_outcome(no_signals(g, a), out, at);
+        return put_outcome(h, no_signals(g, a), out, at);
     }
     let long = plain - PLAIN_QUERIES;
     if long < LONG_QUERIES {
         let k = replay_queries::put_long(g, long, i, p, room, out, at);
-        return put_calm(g, out, k);
+        return put_calm(h, out, k);
     }
-    run_other(g, long - LONG_QUERIES, i, out, at)
+    run_other(h, long - LONG_QUERIES, i, out, at)
 }

@@ -26,7 +26,7 @@ unfolding before
 before-end b s i h = rw (drop-of-length-le s h)
 
 -- no more stand before it than there are
-before-le : (b : ℕ) (s : List ℕ) → before b s ≤ length s
+pub before-le : (b : ℕ) (s : List ℕ) → before b s ≤ length s
 unfolding before
 before-le b [] = omega arith
 before-le b (x ∷ xs) = le-case (eqb x b) (before b xs) (length xs) (before-le b xs)

@@ -1,67 +1,47 @@
 -- The three cases of `lineGives`. Assumes nothing.
 use borrow.Author.Tests.{lt-ltb, le-ltb}
 use Rattle.replay.specs.Script.{lineIn}
-use Rattle.replay.proofs.Laws.{first-length, first-room}
+use mathlib.Core.Path.{ap}
+use Prim.Native.Nat.{zero-le}
+use native.Mathlib.Omega.{arith}
+use Rattle.replay_player.proofs.Room.{too-long-in}
+use Rattle.replay_steps.specs.Turns.{Turn}
+use Rattle.replay.proofs.Laws.{first-length, first-room, inside}
 use borrow.Author.Needs.{needs}
 use Rattle.replay.proofs.give_line.Statement.{statement}
 use Rattle.replay.proofs.give_line.Tie as tie
 
-put-too-long-requires : tie.Need-put-too-long-requires
-put-too-long-requires c κs = tt
-
-not-called-requires : tie.Need-not-called-requires
-not-called-requires c κs = tt
-
-same-length : tie.Need-same-length
-same-length c = search needs
-
 returns : tie.Need-returns
 unfolding lineIn
-returns c = rw (c .not-called .ensures, lt-ltb _ _ (c .before .before .before .before .before .if1 .taken), ← c .before .before .before .put-too-long .ensures)
-
-slice-aggregate-is-passed-over : tie.Need-slice-aggregate-is-passed-over
-slice-aggregate-is-passed-over c = first-length _ _ (c .before .if1 .left)
-
-is-passed-over-requires : tie.Need-is-passed-over-requires
-is-passed-over-requires c κs = tt
-
-not-called-requires-2 : tie.Need-not-called-requires-2
-not-called-requires-2 c κs = tt
+returns c =
+    let s = c .before .before .before .before .before .before .before .before .before .before in
+    (rw (c .not-called .ensures, lt-ltb _ _ (c .before .before .before .before .before .if1 .taken), ← c .before .before .before .put-too-long .ensures), rw (c .not-called .ensures) (inside _ _ (too-long-in (s .args .p .number) (s .good .0 .1 .1 .1 .0 .1)) _ _ _ (c .before .before .before .put-too-long .ensures) (omega (arith, s .pre .1))))
 
 returns-2 : tie.Need-returns-2
 unfolding lineIn
-returns-2 c = rw (c .not-called2 .ensures, le-ltb _ _ (c .before .before .before .before .if1 .left), ← c .before .before .is-passed-over .ensures, c .before .if2 .taken)
-
-slice-aggregate-play : tie.Need-slice-aggregate-play
-slice-aggregate-play c = first-length _ _ (c .before .before .before .before .if1 .left)
-
-play-requires : tie.Need-play-requires
-play-requires c κs = first-room _ _ _ (c .before .before .before .before .before .before .if1 .left) (c .before .before .before .before .before .before .before .before .before .before .before .pre)
-
-same-length-2 : tie.Need-same-length-2
-same-length-2 c = search needs
-
-same-length-3 : tie.Need-same-length-3
-same-length-3 c = search needs
+returns-2 c = (rw (c .not-called2 .ensures, le-ltb _ _ (c .before .before .before .before .if1 .left), ← c .before .before .is-passed-over .ensures, c .before .if2 .taken), rw (c .not-called2 .ensures) zero-le)
 
 returns-3 : tie.Need-returns-3
 unfolding lineIn
-returns-3 c = rw (le-ltb _ _ (c .before .before .before .before .before .before .before .before .before .before .before .if1 .left), ← c .before .before .before .before .before .before .before .before .before .is-passed-over .ensures, c .before .before .before .before .before .before .before .before .if2 .left) (c .before .before .before .before .play .ensures .0)
+returns-3 c =
+    let s = c .before .before .before .before .before .before .before .before .before .before .before .before .before .before .before .before in
+    let l = c .before .before .before .before .play .ensures in
+    (rw (le-ltb _ _ (c .before .before .before .before .before .before .before .before .before .before .before .if1 .left), ← c .before .before .before .before .before .before .before .before .before .is-passed-over .ensures, c .before .before .before .before .before .before .before .before .if2 .left) (l .0), inside _ _ (l .2) _ _ _ (ap (λ (t : Turn). t .page) (l .0)) (s .pre .1))
 
 pub give-line-spec : {M : Type 1} → statement M
 give-line-spec =
     tie.close
     (tie.spec
-    put-too-long-requires
-    not-called-requires
-    same-length
+    (λ c κs. tt)
+    (λ c κs. tt)
+    (λ c. search needs)
     returns
-    slice-aggregate-is-passed-over
-    is-passed-over-requires
-    not-called-requires-2
+    (λ c. first-length _ _ (c .before .if1 .left))
+    (λ c κs. tt)
+    (λ c κs. tt)
     returns-2
-    slice-aggregate-play
-    play-requires
-    same-length-2
-    same-length-3
+    (λ c. first-length _ _ (c .before .before .before .before .if1 .left))
+    (λ c κs. first-room _ _ _ (c .before .before .before .before .before .before .if1 .left) (c .before .before .before .before .before .before .before .before .before .before .before .pre .0))
+    (λ c. search needs)
+    (λ c. search needs)
     returns-3)

@@ -10,24 +10,9 @@ returns : tie.Need-returns
 unfolding keptLen keptIn
 returns c = rw (lt-ltb _ _ (c .if1 .taken)) (refl, refl)
 
-sub-if2 : tie.Need-sub-if2
-sub-if2 c = search needs
-
-add-result : tie.Need-add-result
-add-result c = search needs
-
 returns-2 : tie.Need-returns-2
 unfolding keptLen keptIn
 returns-2 c = rw (le-ltb _ _ (c .before .if1 .left), lt-ltb _ _ (c .if2 .taken)) (refl, refl)
-
-put-requires : tie.Need-put-requires
-put-requires c κs = search needs
-
-add-result-2 : tie.Need-add-result-2
-add-result-2 c = search needs
-
-same-length : tie.Need-same-length
-same-length c = search needs
 
 returns-3 : tie.Need-returns-3
 unfolding keptLen keptIn
@@ -36,4 +21,12 @@ returns-3 c = rw (le-ltb _ _ (c .before .before .before .before .before .if1 .le
 pub keep-spec : {M : Type 1} → statement M
 keep-spec =
     tie.close
-    (tie.spec returns sub-if2 add-result returns-2 put-requires add-result-2 same-length returns-3)
+    (tie.spec
+    returns
+    (λ c. search needs)
+    (λ c. search needs)
+    returns-2
+    (λ c κs. search needs)
+    (λ c. search needs)
+    (λ c. search needs)
+    returns-3)

@@ -17,46 +17,10 @@ Inv-loop piece line₀ states room₀ out₀ q₀ from₀ line room out q from =
 abbrev μ-loop : tie.MeasureT-loop
 μ-loop piece line₀ states room₀ out₀ q₀ from₀ line room out q from = length piece - from
 
-loop-holds : tie.Need-loop-holds Inv-loop μ-loop
-loop-holds c = (omega arith, refl, refl, refl, refl)
-
-find-requires : tie.Need-find-requires Inv-loop μ-loop
-find-requires c κs = tt
-
-sub-keep : tie.Need-sub-keep Inv-loop μ-loop
-sub-keep c = omega (arith, c .before .find .ensures)
-
-part-keep-start : tie.Need-part-keep-start Inv-loop μ-loop
-part-keep-start c = omega (arith, found-le 10 (now (c .before .before .before .before .before .before .before .before .args .piece)) (c .before .before .before .loop .from) (c .before .find .result) (c .before .find .ensures) (c .before .before .before .loop .inv .0))
-
-part-keep-end : tie.Need-part-keep-end Inv-loop μ-loop
-part-keep-end c = omega (arith, found-le 10 (now (c .before .before .before .before .before .before .before .before .args .piece)) (c .before .before .before .loop .from) (c .before .find .result) (c .before .find .ensures) (c .before .before .before .loop .inv .0))
-
-keep-requires : tie.Need-keep-requires Inv-loop μ-loop
-keep-requires c κs = tt
-
-same-length : tie.Need-same-length Inv-loop μ-loop
-same-length c = omega arith
-
-same-length-2 : tie.Need-same-length-2 Inv-loop μ-loop
-same-length-2 c = omega arith
-
-same-length-3 : tie.Need-same-length-3 Inv-loop μ-loop
-same-length-3 c = omega arith
-
 returns : tie.Need-returns Inv-loop μ-loop
 returns c =
     let l = c .before .before .before .before .before .before .before .before .loop in
-    λ going. sym (l .inv .4 ∙ piece-end (now (c .before .before .before .before .before .before .before .before .before .before .before .before .before .args .piece)) (l .line) _ (l .from) _ (c .before .before .before .before .before .before .find .ensures) (l .q .gate) (l .q .number) (l .q .len) _ _ (l .inv .1) (c .before .before .before .keep .ensures) (c .if1 .taken))
-
-finish-line-requires : tie.Need-finish-line-requires Inv-loop μ-loop
-finish-line-requires c κs = omega arith
-
-add-from : tie.Need-add-from Inv-loop μ-loop
-add-from c = let good = c .before .before .before .before .before .before .before .before .before .before .before .before .before .before .before .before .before .before .before .before .before .before .good in omega arith
-
-loop-less : tie.Need-loop-less Inv-loop μ-loop
-loop-less c = omega (arith, c .before .before .before .before .before .before .before .before .before .before .before .before .before .before .before .find .ensures)
+    λ going. sym (l .inv .4 ∙ piece-end (now (c .before .before .before .before .before .before .before .before .before .before .before .before .before .args .piece)) (l .line) _ (l .from) _ (c .before .before .before .before .before .before .find .ensures) (l .q .host) (l .q .number) (l .q .len) _ _ (l .inv .1) (c .before .before .before .keep .ensures) (c .if1 .taken))
 
 loop-again : tie.Need-loop-again Inv-loop μ-loop
 loop-again c =
@@ -65,29 +29,8 @@ loop-again c =
       omega arith,
       omega arith,
       omega arith,
-      l .inv .4 ∙ piece-on (now (c .before .before .before .before .before .before .before .before .before .before .before .before .before .before .before .before .before .before .before .before .before .before .args .piece)) (l .line) _ (l .from) _ (c .before .before .before .before .before .before .before .before .before .before .before .before .before .before .before .find .ensures) (l .q .gate) (l .q .number) (l .q .len) _ _ (l .inv .1) (c .before .before .before .before .before .before .before .before .before .before .before .before .keep .ensures) _ _ (c .before .before .before .before .before .finish-line .ensures) (c .before .before .before .before .before .before .before .before .before .if1 .left),
+      l .inv .4 ∙ piece-on (now (c .before .before .before .before .before .before .before .before .before .before .before .before .before .before .before .before .before .before .before .before .before .before .args .piece)) (l .line) _ (l .from) _ (c .before .before .before .before .before .before .before .before .before .before .before .before .before .before .before .find .ensures) (l .q .host) (l .q .number) (l .q .len) _ _ (l .inv .1) (c .before .before .before .before .before .before .before .before .before .before .before .before .keep .ensures) _ _ (c .before .before .before .before .before .finish-line .ensures) (c .before .before .before .before .before .before .before .before .before .if1 .left),
     )
-
-same-length-4 : tie.Need-same-length-4 Inv-loop μ-loop
-same-length-4 c = let l = c .before .before .before .before .before .before .before .before .before .before .before .before .before .before .before .before .before .loop in omega arith
-
-same-length-5 : tie.Need-same-length-5 Inv-loop μ-loop
-same-length-5 c = let l = c .before .before .before .before .before .before .before .before .before .before .before .before .before .before .before .before .before .loop in omega arith
-
-same-length-6 : tie.Need-same-length-6 Inv-loop μ-loop
-same-length-6 c = let l = c .before .before .before .before .before .before .before .before .before .before .before .before .before .before .before .before .before .loop in omega arith
-
-returns-2 : tie.Need-returns-2 Inv-loop μ-loop
-returns-2 c = λ going. never (sym (c .if2 .left) ∙ going)
-
-same-length-7 : tie.Need-same-length-7 Inv-loop μ-loop
-same-length-7 c = omega arith
-
-same-length-8 : tie.Need-same-length-8 Inv-loop μ-loop
-same-length-8 c = omega arith
-
-same-length-9 : tie.Need-same-length-9 Inv-loop μ-loop
-same-length-9 c = omega arith
 
 returns-3 : tie.Need-returns-3 Inv-loop μ-loop
 returns-3 c =
@@ -100,25 +43,25 @@ read-piece-spec =
     (tie.spec
     Inv-loop
     μ-loop
-    loop-holds
-    find-requires
-    sub-keep
-    part-keep-start
-    part-keep-end
-    keep-requires
-    same-length
-    same-length-2
-    same-length-3
+    (λ c. (omega arith, refl, refl, refl, refl))
+    (λ c κs. tt)
+    (λ c. omega (arith, c .before .find .ensures))
+    (λ c. omega (arith, found-le 10 (now (c .before .before .before .before .before .before .before .before .args .piece)) (c .before .before .before .loop .from) (c .before .find .result) (c .before .find .ensures) (c .before .before .before .loop .inv .0)))
+    (λ c. omega (arith, found-le 10 (now (c .before .before .before .before .before .before .before .before .args .piece)) (c .before .before .before .loop .from) (c .before .find .result) (c .before .find .ensures) (c .before .before .before .loop .inv .0)))
+    (λ c κs. tt)
+    (λ c. omega arith)
+    (λ c. omega arith)
+    (λ c. omega arith)
     returns
-    finish-line-requires
-    add-from
-    loop-less
+    (λ c κs. (omega arith, omega arith))
+    (λ c. let good = c .before .before .before .before .before .before .before .before .before .before .before .before .before .before .before .before .before .before .before .before .before .before .good in omega arith)
+    (λ c. omega (arith, c .before .before .before .before .before .before .before .before .before .before .before .before .before .before .before .find .ensures))
     loop-again
-    same-length-4
-    same-length-5
-    same-length-6
-    returns-2
-    same-length-7
-    same-length-8
-    same-length-9
+    (λ c. let l = c .before .before .before .before .before .before .before .before .before .before .before .before .before .before .before .before .before .loop in omega arith)
+    (λ c. let l = c .before .before .before .before .before .before .before .before .before .before .before .before .before .before .before .before .before .loop in omega arith)
+    (λ c. let l = c .before .before .before .before .before .before .before .before .before .before .before .before .before .before .before .before .before .loop in omega arith)
+    (λ c. λ going. never (sym (c .if2 .left) ∙ going))
+    (λ c. omega arith)
+    (λ c. omega arith)
+    (λ c. omega arith)
     returns-3)

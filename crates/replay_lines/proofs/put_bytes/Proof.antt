@@ -15,11 +15,12 @@ unfolding text
 put-bytes-spec =
     tie.close
     (tie.spec
-    (λ c. let a = c .before .before .before .args in let h = hex-length (now (a .src)) in rw (lt-ltb (length (now (a .out))) (a .at + length (hexOf (now (a .src)))) (omega arith)))
+    (λ c. let a = c .before .before .before .args in rw (lt-ltb (length (now (a .out))) (a .at) (omega arith)))
     (λ c. search needs)
-    (λ c. let a = c .before .before .before .before .args in let h = hex-length (now (a .src)) in rw (lt-ltb (length (now (a .out))) (a .at + length (hexOf (now (a .src)))) (omega arith)))
+    (λ c. search needs)
+    (λ c. let a = c .before .before .before .before .args in let h = hex-length (now (a .src)) in rw (le-ltb (length (now (a .out))) (a .at) (omega arith), lt-ltb (length (now (a .out))) (a .at + length (hexOf (now (a .src)))) (omega arith)))
     (λ c κs. search needs)
     (λ c. search needs)
     (λ c. search needs)
     (λ c. c .before .before .put-hex .kept .0)
-    (λ c. let a = c .before .before .before .before .before .before .before .before .args in let h = hex-length (now (a .src)) in rw (c .before .before .put-hex .ensures, le-ltb (length (now (a .out))) (a .at + length (hexOf (now (a .src)))) (omega arith), h)))
+    (λ c. let a = c .before .before .before .before .before .before .before .before .args in let h = hex-length (now (a .src)) in rw (c .before .before .put-hex .ensures, le-ltb (length (now (a .out))) (a .at) (omega arith), le-ltb (length (now (a .out))) (a .at + length (hexOf (now (a .src)))) (omega arith), h)))

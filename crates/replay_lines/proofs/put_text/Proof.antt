@@ -13,10 +13,11 @@ unfolding text
 put-text-spec =
     tie.close
     (tie.spec
-    (λ c. let a = c .before .before .before .args in rw (lt-ltb (length (now (a .out))) (a .at + length (now (a .src))) (omega arith)))
+    (λ c. let a = c .before .before .before .args in rw (lt-ltb (length (now (a .out))) (a .at) (omega arith)))
     (λ c. search needs)
-    (λ c. let a = c .before .before .before .before .args in rw (lt-ltb (length (now (a .out))) (a .at + length (now (a .src))) (omega arith)))
+    (λ c. search needs)
+    (λ c. let a = c .before .before .before .before .args in rw (le-ltb (length (now (a .out))) (a .at) (omega arith), lt-ltb (length (now (a .out))) (a .at + length (now (a .src))) (omega arith)))
     (λ c κs. search needs)
     (λ c. search needs)
     (λ c. c .before .before .put .kept .0)
-    (λ c. let a = c .before .before .before .before .before .before .before .before .args in rw (c .before .before .put .ensures, le-ltb (length (now (a .out))) (a .at + length (now (a .src))) (omega arith))))
+    (λ c. let a = c .before .before .before .before .before .before .before .before .args in rw (c .before .before .put .ensures, le-ltb (length (now (a .out))) (a .at) (omega arith), le-ltb (length (now (a .out))) (a .at + length (now (a .src))) (omega arith))))

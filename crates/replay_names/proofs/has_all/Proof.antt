@@ -17,24 +17,12 @@ Inv-loop row keys right many count left₀ at₀ left at =
 abbrev μ-loop : tie.MeasureT-loop
 μ-loop row keys right many count left₀ at₀ left at = length row - at
 
-add-at : tie.Need-add-at Inv-loop μ-loop
-add-at c = omega (arith, end-inside 32 (c .before .before .before .args .row .now) 0 (c .end-of .result) (omega arith) (c .end-of .ensures))
-
 loop-holds : tie.Need-loop-holds Inv-loop μ-loop
 unfolding restOf
 loop-holds c =
     let a = c .before .before .before .args in
     let e : before 32 (a .row .now) ≡ c .end-of .result = omega (arith, c .end-of .ensures) in
     rw e
-
-sub-place-in : tie.Need-sub-place-in Inv-loop μ-loop
-sub-place-in c = omega (arith, c .end-of2 .ensures)
-
-part-place-in-start : tie.Need-part-place-in-start Inv-loop μ-loop
-part-place-in-start c = omega (arith, end-inside 32 (c .before .before .before .before .before .before .args .row .now) (c .before .before .loop .at) (c .end-of2 .result) (omega arith) (c .end-of2 .ensures))
-
-part-place-in-end : tie.Need-part-place-in-end Inv-loop μ-loop
-part-place-in-end c = omega (arith, end-inside 32 (c .before .before .before .before .before .before .args .row .now) (c .before .before .loop .at) (c .end-of2 .result) (omega arith) (c .end-of2 .ensures))
 
 returns : tie.Need-returns Inv-loop μ-loop
 returns c =
@@ -90,12 +78,12 @@ has-all-spec =
     Inv-loop
     μ-loop
     (λ c κs. omega arith)
-    add-at
+    (λ c. omega (arith, end-inside 32 (c .before .before .before .args .row .now) 0 (c .end-of .result) (omega arith) (c .end-of .ensures)))
     loop-holds
     (λ c κs. omega arith)
-    sub-place-in
-    part-place-in-start
-    part-place-in-end
+    (λ c. omega (arith, c .end-of2 .ensures))
+    (λ c. omega (arith, end-inside 32 (c .before .before .before .before .before .before .args .row .now) (c .before .before .loop .at) (c .end-of2 .result) (omega arith) (c .end-of2 .ensures)))
+    (λ c. omega (arith, end-inside 32 (c .before .before .before .before .before .before .args .row .now) (c .before .before .loop .at) (c .end-of2 .result) (omega arith) (c .end-of2 .ensures)))
     (λ c κs. tt)
     (λ c κs. tt)
     (λ c κs. tt)

@@ -4,8 +4,9 @@ use Prim.Native.Nat.{_+_, _-_, _≤_, suc}
 use native.Mathlib.Omega.{arith}
 use lib.ListN.{length, drop}
 use borrow.Author.Tests.{eq-eqb, ne-eqb}
-use Rattle.replay_script.specs.Words.{before}
-use Rattle.replay_script.proofs.Laws.{before-turn, before-end}
+use Rattle.word_table.specs.Words.{before}
+use Rattle.replay_script.proofs.Laws.{before-turn}
+use Rattle.word_table.proofs.Laws.{before-end}
 use Rattle.replay_script.proofs.find.Statement.{statement}
 use Rattle.replay_script.proofs.find.Tie as tie
 
@@ -15,24 +16,12 @@ Inv-loop s from b i₀ i = (from ≤ i) × (from + before b (drop from s) ≡ i 
 abbrev μ-loop : tie.MeasureT-loop
 μ-loop s from b i₀ i = length s - i
 
-loop-holds : tie.Need-loop-holds Inv-loop μ-loop
-loop-holds c = (omega arith, refl)
-
-shared-slice-read-if1 : tie.Need-shared-slice-read-if1 Inv-loop μ-loop
-shared-slice-read-if1 c = omega arith
-
 returns : tie.Need-returns Inv-loop μ-loop
 returns c =
     let a = c .before .before .before .before .args in
     let l = c .before .before .before .loop in
     let t : before (a .b) (drop (l .i) (a .s .now)) ≡ 0 = before-turn (a .b) (a .s .now) (l .i) (omega arith) ∙ rw (eq-eqb _ _ (c .if1 .taken)) in
     omega (arith, l .inv .1)
-
-add-i : tie.Need-add-i Inv-loop μ-loop
-add-i c = omega arith
-
-loop-less : tie.Need-loop-less Inv-loop μ-loop
-loop-less c = omega arith
 
 loop-again : tie.Need-loop-again Inv-loop μ-loop
 loop-again c =
@@ -53,10 +42,10 @@ find-spec =
     (tie.spec
     Inv-loop
     μ-loop
-    loop-holds
-    shared-slice-read-if1
+    (λ c. (omega arith, refl))
+    (λ c. omega arith)
     returns
-    add-i
-    loop-less
+    (λ c. omega arith)
+    (λ c. omega arith)
     loop-again
     returns-2)

@@ -8,15 +8,6 @@ use lib.Seq.{length-take-le}
 use Rattle.replay_script.proofs.has_key.Statement.{statement}
 use Rattle.replay_script.proofs.has_key.Tie as tie
 
-shared-slice-read-if2 : tie.Need-shared-slice-read-if2
-shared-slice-read-if2 c = search needs
-
-slice-aggregate-same-bytes : tie.Need-slice-aggregate-same-bytes
-slice-aggregate-same-bytes c = let a = c .before .before .before .before .before .before .args in sym (length-take-le (length (a .key .now)) (a .word .now) (omega arith))
-
-same-bytes-requires : tie.Need-same-bytes-requires
-same-bytes-requires c κs = tt
-
 returns : tie.Need-returns
 unfolding hasKey
 returns c = rw (lt-ltb _ _ (c .before .before .before .before .if1 .taken), eq-eqb _ _ (c .before .before .if2 .taken), ← c .same-bytes .ensures)
@@ -33,9 +24,9 @@ pub has-key-spec : {M : Type 1} → statement M
 has-key-spec =
     tie.close
     (tie.spec
-    shared-slice-read-if2
-    slice-aggregate-same-bytes
-    same-bytes-requires
+    (λ c. search needs)
+    (λ c. let a = c .before .before .before .before .before .before .args in sym (length-take-le (length (a .key .now)) (a .word .now) (omega arith)))
+    (λ c κs. tt)
     returns
     returns-2
     returns-3)

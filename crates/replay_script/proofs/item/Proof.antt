@@ -4,19 +4,11 @@ use Prim.Native.Nat.{ℕ}
 use native.Mathlib.Omega.{arith}
 use lib.ListN.{drop}
 use mathlib.Core.List.{List, [], _∷_}
-use Rattle.replay_script.specs.Words.{before, itemsOf, part}
+use Rattle.replay_script.specs.Words.{itemsOf, part}
+use Rattle.word_table.specs.Words.{before}
 use Rattle.replay_script.specs.Places.{valuesOf, shown, only, itemOf}
 use Rattle.replay_script.proofs.item.Statement.{statement}
 use Rattle.replay_script.proofs.item.Tie as tie
-
-no-span-requires : tie.Need-no-span-requires
-no-span-requires c κs = tt
-
-next-requires : tie.Need-next-requires
-next-requires c κs = tt
-
-next-requires-2 : tie.Need-next-requires-2
-next-requires-2 c κs = tt
 
 returns : tie.Need-returns
 unfolding itemOf shown
@@ -59,9 +51,9 @@ pub item-spec : {M : Type 1} → statement M
 item-spec =
     tie.close
     (tie.spec
-    no-span-requires
-    next-requires
-    next-requires-2
+    (λ c κs. tt)
+    (λ c κs. tt)
+    (λ c κs. tt)
     returns
     returns-2
     returns-3)

@@ -3,7 +3,8 @@ use mathlib.Core.Path.{_≡_, ap}
 use Prim.Native.Nat.{_+_, _-_, _≤_, _<_}
 use native.Mathlib.Omega.{arith}
 use lib.ListN.{length, drop, getD}
-use Rattle.replay_script.specs.Words.{before, itemsOf}
+use Rattle.replay_script.specs.Words.{itemsOf}
+use Rattle.word_table.specs.Words.{before}
 use Rattle.replay_script.proofs.Laws.{found, items-from, items-turn, items-end}
 use Rattle.replay_script.proofs.items.Statement.{statement}
 use Rattle.replay_script.proofs.items.Tie as tie
@@ -14,26 +15,11 @@ Inv-loop line n₀ at₀ n at = (n ≤ at) × (n + length (itemsOf (drop at line
 abbrev μ-loop : tie.MeasureT-loop
 μ-loop line n₀ at₀ n at = length line - at
 
-find-requires : tie.Need-find-requires Inv-loop μ-loop
-find-requires c κs = tt
-
 loop-holds : tie.Need-loop-holds Inv-loop μ-loop
 loop-holds c =
     let line = c .before .before .args .line .now in
     let q = c .find .ensures in
     (omega arith, omega (arith, ap length (items-from line 0 (c .find .result) q)), found 32 line 0 (c .find .result) q)
-
-add-n : tie.Need-add-n Inv-loop μ-loop
-add-n c = omega arith
-
-add-find : tie.Need-add-find Inv-loop μ-loop
-add-find c = omega arith
-
-find-requires-2 : tie.Need-find-requires-2 Inv-loop μ-loop
-find-requires-2 c κs = tt
-
-loop-less : tie.Need-loop-less Inv-loop μ-loop
-loop-less c = omega (arith, c .find2 .ensures)
 
 loop-again : tie.Need-loop-again Inv-loop μ-loop
 loop-again c =
@@ -55,11 +41,11 @@ items-spec =
     (tie.spec
     Inv-loop
     μ-loop
-    find-requires
+    (λ c κs. tt)
     loop-holds
-    add-n
-    add-find
-    find-requires-2
-    loop-less
+    (λ c. omega arith)
+    (λ c. omega arith)
+    (λ c κs. tt)
+    (λ c. omega (arith, c .find2 .ensures))
     loop-again
     returns)

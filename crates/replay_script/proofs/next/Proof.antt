@@ -3,7 +3,8 @@ use mathlib.Core.Path.{_≡_, sym, _∙_, ap}
 use Prim.Native.Nat.{_+_, _-_, _≤_, _<_}
 use native.Mathlib.Omega.{arith}
 use lib.ListN.{length, drop, getD}
-use Rattle.replay_script.specs.Words.{before, itemsOf}
+use Rattle.replay_script.specs.Words.{itemsOf}
+use Rattle.word_table.specs.Words.{before}
 use Rattle.replay_script.specs.Places.{valuesOf, shown}
 use Rattle.replay_script.proofs.Laws.{found, items-from, items-end, values-none, word-inside, key-inside, values-hit, values-miss, never}
 use Rattle.replay_script.proofs.next.Statement.{statement}
@@ -15,21 +16,12 @@ Inv-loop line from key at₀ at = (from ≤ at) × (valuesOf key (itemsOf (drop 
 abbrev μ-loop : tie.MeasureT-loop
 μ-loop line from key at₀ at = length line - at
 
-find-requires : tie.Need-find-requires Inv-loop μ-loop
-find-requires c κs = tt
-
 loop-holds : tie.Need-loop-holds Inv-loop μ-loop
 loop-holds c =
     let a = c .before .before .before .args in
     let line = a .line .now in
     let q = c .find .ensures in
     (omega arith, ap (valuesOf (a .key .now)) (items-from line (a .from) (c .find .result) q), found 32 line (a .from) (c .find .result) q)
-
-add-start : tie.Need-add-start Inv-loop μ-loop
-add-start c = omega arith
-
-find-requires-2 : tie.Need-find-requires-2 Inv-loop μ-loop
-find-requires-2 c κs = tt
 
 sub-has-key : tie.Need-sub-has-key Inv-loop μ-loop
 sub-has-key c =
@@ -45,9 +37,6 @@ part-has-key-end : tie.Need-part-has-key-end Inv-loop μ-loop
 part-has-key-end c =
     let a = c .before .before .before .before .before .before .args in
     omega (arith, word-inside (a .key .now) (a .line .now) (c .before .before .loop .at) (c .find2 .result) (omega arith) (c .find2 .ensures))
-
-has-key-requires : tie.Need-has-key-requires Inv-loop μ-loop
-has-key-requires c κs = tt
 
 add-t14 : tie.Need-add-t14 Inv-loop μ-loop
 add-t14 c =
@@ -81,9 +70,6 @@ returns c =
       onward = λ ok. omega arith;
     }
 
-loop-less : tie.Need-loop-less Inv-loop μ-loop
-loop-less c = omega (arith, c .before .before .before .find2 .ensures)
-
 loop-again : tie.Need-loop-again Inv-loop μ-loop
 loop-again c =
     let line = c .before .before .before .before .before .before .before .before .before .args .line .now in
@@ -95,9 +81,6 @@ loop-again c =
       l .inv .1 ∙ values-miss key line (l .at) (f .result) (omega arith) (f .ensures) (l .inv .2 (omega arith)) miss,
       found 32 line (l .at + 1) (f .result) (f .ensures),
     )
-
-no-span-requires : tie.Need-no-span-requires Inv-loop μ-loop
-no-span-requires c κs = tt
 
 returns-2 : tie.Need-returns-2 Inv-loop μ-loop
 unfolding shown
@@ -118,18 +101,18 @@ next-spec =
     (tie.spec
     Inv-loop
     μ-loop
-    find-requires
+    (λ c κs. tt)
     loop-holds
-    add-start
-    find-requires-2
+    (λ c. omega arith)
+    (λ c κs. tt)
     sub-has-key
     part-has-key-start
     part-has-key-end
-    has-key-requires
+    (λ c κs. tt)
     add-t14
     add-t15
     returns
-    loop-less
+    (λ c. omega (arith, c .before .before .before .find2 .ensures))
     loop-again
-    no-span-requires
+    (λ c κs. tt)
     returns-2)

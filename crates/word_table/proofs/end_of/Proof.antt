@@ -14,30 +14,26 @@ Inv-loop text at b i₀ i = (i ≤ length text) × (at + before b (drop at text)
 abbrev μ-loop : tie.MeasureT-loop
 μ-loop text at b i₀ i = length text - i
 
-loop-holds : tie.Need-loop-holds Inv-loop μ-loop
-loop-holds c = (omega arith, refl)
-
-shared-slice-read-if1 : tie.Need-shared-slice-read-if1 Inv-loop μ-loop
-shared-slice-read-if1 c = omega arith
-
 returns : tie.Need-returns Inv-loop μ-loop
 returns c =
     let l = c .before .before .before .loop in
     omega (arith, before-here (c .before .before .before .before .args .b) (c .before .before .before .before .args .text .now) (l .i) (omega arith) (c .if1 .taken))
-
-add-i : tie.Need-add-i Inv-loop μ-loop
-add-i c = omega arith
-
-loop-less : tie.Need-loop-less Inv-loop μ-loop
-loop-less c = omega arith
 
 loop-again : tie.Need-loop-again Inv-loop μ-loop
 loop-again c =
     let l = c .before .before .before .loop in
     (omega arith, omega (arith, before-more (c .before .before .before .before .args .b) (c .before .before .before .before .args .text .now) (l .i) (omega arith) (c .if1 .left)))
 
-returns-2 : tie.Need-returns-2 Inv-loop μ-loop
-returns-2 c = omega (arith, before-end (c .before .before .args .b) (c .before .before .args .text .now) (c .before .loop .i) (omega arith))
-
 pub end-of-spec : {M : Type 1} → statement M
-end-of-spec = tie.close (tie.spec Inv-loop μ-loop loop-holds shared-slice-read-if1 returns add-i loop-less loop-again returns-2)
+end-of-spec =
+    tie.close
+    (tie.spec
+    Inv-loop
+    μ-loop
+    (λ c. (omega arith, refl))
+    (λ c. omega arith)
+    returns
+    (λ c. omega arith)
+    (λ c. omega arith)
+    loop-again
+    (λ c. omega (arith, before-end (c .before .before .args .b) (c .before .before .args .text .now) (c .before .loop .i) (omega arith))))

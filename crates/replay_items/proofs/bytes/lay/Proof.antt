@@ -9,17 +9,8 @@ use Rattle.replay_items.proofs.Laws.{laid-as, lay-as, took, took-none, 
 use Rattle.replay_items.proofs.bytes.lay.Statement.{statement}
 use Rattle.replay_items.proofs.bytes.lay.Tie as tie
 
-bytes-of-requires : tie.Need-bytes-of-requires
-bytes-of-requires c κs = tt
-
-enum-known-laid : tie.Need-enum-known-laid
-enum-known-laid c = search needs
-
 enum-told : tie.Need-enum-told
 enum-told c = search needs
-
-same-length : tie.Need-same-length
-same-length c = search needs
 
 returns : tie.Need-returns
 unfolding hasBytes bytesAt
@@ -30,9 +21,6 @@ returns c =
     let e = c .before .before .before .before .before .bytes-of .ensures in
     let t = took _ _ _ (sym (laid-as (a .form) v (a .at) (length (now (a .room))) (s .pre)) ∙ sym (e .0) ∙ c .before .laid .given .1) in
     record { has = sym (t .0); end = sym (t .1); memory = e .1 ∙ lay-as (a .form) v (a .at) (now (a .room)) (s .pre) }
-
-same-length-2 : tie.Need-same-length-2
-same-length-2 c = search needs
 
 returns-2 : tie.Need-returns-2
 unfolding hasBytes bytesAt
@@ -49,10 +37,10 @@ pub lay-spec : {M : Type 1} → statement M
 lay-spec =
     tie.close
     (tie.spec
-    bytes-of-requires
-    enum-known-laid
+    (λ c κs. tt)
+    (λ c. search needs)
     enum-told
-    same-length
+    (λ c. search needs)
     returns
-    same-length-2
+    (λ c. search needs)
     returns-2)

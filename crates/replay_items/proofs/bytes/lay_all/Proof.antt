@@ -13,51 +13,6 @@ use Rattle.replay_items.proofs.Together.{sizes}
 use Rattle.replay_items.proofs.bytes.lay_all.Statement.{statement}
 use Rattle.replay_items.proofs.bytes.lay_all.Tie as tie
 
-slice-aggregate-lay : tie.Need-slice-aggregate-lay
-slice-aggregate-lay c = search needs
-
-lay-requires : tie.Need-lay-requires
-lay-requires c κs = omega (arith, sizes (now (c .before .before .before .before .args .line)), c .before .before .before .before .pre)
-
-slice-aggregate-lay-2 : tie.Need-slice-aggregate-lay-2
-slice-aggregate-lay-2 c = search needs
-
-lay-requires-2 : tie.Need-lay-requires-2
-lay-requires-2 c κs = omega (arith, sizes (now (c .before .before .before .before .before .before .before .before .before .args .line)), c .before .before .before .before .lay .ensures .end, c .before .before .before .before .lay .kept .1 .1 .1 .0, c .before .before .before .before .before .before .before .before .before .pre)
-
-slice-aggregate-lay-3 : tie.Need-slice-aggregate-lay-3
-slice-aggregate-lay-3 c = search needs
-
-lay-requires-3 : tie.Need-lay-requires-3
-lay-requires-3 c κs = omega (arith, sizes (now (c .before .before .before .before .before .before .before .before .before .before .before .before .before .before .args .line)), c .before .before .before .before .lay2 .ensures .end, c .before .before .before .before .before .before .before .before .before .lay .ensures .end, c .before .before .before .before .lay2 .kept .1 .1 .1 .0, c .before .before .before .before .before .before .before .before .before .lay .kept .1 .1 .1 .0, c .before .before .before .before .before .before .before .before .before .before .before .before .before .before .pre)
-
-slice-aggregate-lay-4 : tie.Need-slice-aggregate-lay-4
-slice-aggregate-lay-4 c = search needs
-
-lay-requires-4 : tie.Need-lay-requires-4
-lay-requires-4 c κs = omega (arith, sizes (now (c .before .before .before .before .before .before .before .before .before .before .before .before .before .before .before .before .before .before .before .args .line)), c .before .before .before .before .lay3 .ensures .end, c .before .before .before .before .before .before .before .before .before .lay2 .ensures .end, c .before .before .before .before .before .before .before .before .before .before .before .before .before .before .lay .ensures .end, c .before .before .before .before .lay3 .kept .1 .1 .1 .0, c .before .before .before .before .before .before .before .before .before .lay2 .kept .1 .1 .1 .0, c .before .before .before .before .before .before .before .before .before .before .before .before .before .before .lay .kept .1 .1 .1 .0, c .before .before .before .before .before .before .before .before .before .before .before .before .before .before .before .before .before .before .before .pre)
-
-slice-aggregate-lay-5 : tie.Need-slice-aggregate-lay-5
-slice-aggregate-lay-5 c = search needs
-
-lay-requires-5 : tie.Need-lay-requires-5
-lay-requires-5 c κs = omega (arith, sizes (now (c .before .before .before .before .before .before .before .before .before .before .before .before .before .before .before .before .before .before .before .before .before .before .before .before .args .line)), c .before .before .before .before .lay4 .ensures .end, c .before .before .before .before .before .before .before .before .before .lay3 .ensures .end, c .before .before .before .before .before .before .before .before .before .before .before .before .before .before .lay2 .ensures .end, c .before .before .before .before .before .before .before .before .before .before .before .before .before .before .before .before .before .before .before .lay .ensures .end, c .before .before .before .before .lay4 .kept .1 .1 .1 .0, c .before .before .before .before .before .before .before .before .before .lay3 .kept .1 .1 .1 .0, c .before .before .before .before .before .before .before .before .before .before .before .before .before .before .lay2 .kept .1 .1 .1 .0, c .before .before .before .before .before .before .before .before .before .before .before .before .before .before .before .before .before .before .before .lay .kept .1 .1 .1 .0, c .before .before .before .before .before .before .before .before .before .before .before .before .before .before .before .before .before .before .before .before .before .before .before .before .pre)
-
-slice-aggregate-lay-6 : tie.Need-slice-aggregate-lay-6
-slice-aggregate-lay-6 c = search needs
-
-lay-requires-6 : tie.Need-lay-requires-6
-lay-requires-6 c κs = omega (arith, sizes (now (c .before .before .before .before .before .before .before .before .before .before .before .before .before .before .before .before .before .before .before .before .before .before .before .before .before .before .before .before .before .args .line)), c .before .before .before .before .lay5 .ensures .end, c .before .before .before .before .before .before .before .before .before .lay4 .ensures .end, c .before .before .before .before .before .before .before .before .before .before .before .before .before .before .lay3 .ensures .end, c .before .before .before .before .before .before .before .before .before .before .before .before .before .before .before .before .before .before .before .lay2 .ensures .end, c .before .before .before .before .before .before .before .before .before .before .before .before .before .before .before .before .before .before .before .before .before .before .before .before .lay .ensures .end, c .before .before .before .before .lay5 .kept .1 .1 .1 .0, c .before .before .before .before .before .before .before .before .before .lay4 .kept .1 .1 .1 .0, c .before .before .before .before .before .before .before .before .before .before .before .before .before .before .lay3 .kept .1 .1 .1 .0, c .before .before .before .before .before .before .before .before .before .before .before .before .before .before .before .before .before .before .before .lay2 .kept .1 .1 .1 .0, c .before .before .before .before .before .before .before .before .before .before .before .before .before .before .before .before .before .before .before .before .before .before .before .before .lay .kept .1 .1 .1 .0, c .before .before .before .before .before .before .before .before .before .before .before .before .before .before .before .before .before .before .before .before .before .before .before .before .before .before .before .before .before .pre)
-
-slice-aggregate-lay-7 : tie.Need-slice-aggregate-lay-7
-slice-aggregate-lay-7 c = search needs
-
-lay-requires-7 : tie.Need-lay-requires-7
-lay-requires-7 c κs = omega (arith, sizes (now (c .before .before .before .before .before .before .before .before .before .before .before .before .before .before .before .before .before .before .before .before .before .before .before .before .before .before .before .before .before .before .before .before .before .before .args .line)), c .before .before .before .before .lay6 .ensures .end, c .before .before .before .before .before .before .before .before .before .lay5 .ensures .end, c .before .before .before .before .before .before .before .before .before .before .before .before .before .before .lay4 .ensures .end, c .before .before .before .before .before .before .before .before .before .before .before .before .before .before .before .before .before .before .before .lay3 .ensures .end, c .before .before .before .before .before .before .before .before .before .before .before .before .before .before .before .before .before .before .before .before .before .before .before .before .lay2 .ensures .end, c .before .before .before .before .before .before .before .before .before .before .before .before .before .before .before .before .before .before .before .before .before .before .before .before .before .before .before .before .before .lay .ensures .end, c .before .before .before .before .lay6 .kept .1 .1 .1 .0, c .before .before .before .before .before .before .before .before .before .lay5 .kept .1 .1 .1 .0, c .before .before .before .before .before .before .before .before .before .before .before .before .before .before .lay4 .kept .1 .1 .1 .0, c .before .before .before .before .before .before .before .before .before .before .before .before .before .before .before .before .before .before .before .lay3 .kept .1 .1 .1 .0, c .before .before .before .before .before .before .before .before .before .before .before .before .before .before .before .before .before .before .before .before .before .before .before .before .lay2 .kept .1 .1 .1 .0, c .before .before .before .before .before .before .before .before .before .before .before .before .before .before .before .before .before .before .before .before .before .before .before .before .before .before .before .before .before .lay .kept .1 .1 .1 .0, c .before .before .before .before .before .before .before .before .before .before .before .before .before .before .before .before .before .before .before .before .before .before .before .before .before .before .before .before .before .before .before .before .before .before .pre)
-
-same-length : tie.Need-same-length
-same-length c = c .before .before .lay7 .kept .1 .1 .1 .0 ∙ c .before .before .before .before .before .before .before .lay6 .kept .1 .1 .1 .0 ∙ c .before .before .before .before .before .before .before .before .before .before .before .before .lay5 .kept .1 .1 .1 .0 ∙ c .before .before .before .before .before .before .before .before .before .before .before .before .before .before .before .before .before .lay4 .kept .1 .1 .1 .0 ∙ c .before .before .before .before .before .before .before .before .before .before .before .before .before .before .before .before .before .before .before .before .before .before .lay3 .kept .1 .1 .1 .0 ∙ c .before .before .before .before .before .before .before .before .before .before .before .before .before .before .before .before .before .before .before .before .before .before .before .before .before .before .before .lay2 .kept .1 .1 .1 .0 ∙ c .before .before .before .before .before .before .before .before .before .before .before .before .before .before .before .before .before .before .before .before .before .before .before .before .before .before .before .before .before .before .before .before .lay .kept .1 .1 .1 .0
-
 returns : tie.Need-returns
 unfolding hasAt bytesOf lentBytes joined endsOf
 returns c =
@@ -105,19 +60,19 @@ pub lay-all-spec : {M : Type 1} → statement M
 lay-all-spec =
     tie.close
     (tie.spec
-    slice-aggregate-lay
-    lay-requires
-    slice-aggregate-lay-2
-    lay-requires-2
-    slice-aggregate-lay-3
-    lay-requires-3
-    slice-aggregate-lay-4
-    lay-requires-4
-    slice-aggregate-lay-5
-    lay-requires-5
-    slice-aggregate-lay-6
-    lay-requires-6
-    slice-aggregate-lay-7
-    lay-requires-7
-    same-length
+    (λ c. search needs)
+    (λ c κs. omega (arith, sizes (now (c .before .before .before .before .args .line)), c .before .before .before .before .pre))
+    (λ c. search needs)
+    (λ c κs. omega (arith, sizes (now (c .before .before .before .before .before .before .before .before .before .args .line)), c .before .before .before .before .lay .ensures .end, c .before .before .before .before .lay .kept .1 .1 .1 .0, c .before .before .before .before .before .before .before .before .before .pre))
+    (λ c. search needs)
+    (λ c κs. omega (arith, sizes (now (c .before .before .before .before .before .before .before .before .before .before .before .before .before .before .args .line)), c .before .before .before .before .lay2 .ensures .end, c .before .before .before .before .before .before .before .before .before .lay .ensures .end, c .before .before .before .before .lay2 .kept .1 .1 .1 .0, c .before .before .before .before .before .before .before .before .before .lay .kept .1 .1 .1 .0, c .before .before .before .before .before .before .before .before .before .before .before .before .before .before .pre))
+    (λ c. search needs)
+    (λ c κs. omega (arith, sizes (now (c .before .before .before .before .before .before .before .before .before .before .before .before .before .before .before .before .before .before .before .args .line)), c .before .before .before .before .lay3 .ensures .end, c .before .before .before .before .before .before .before .before .before .lay2 .ensures .end, c .before .before .before .before .before .before .before .before .before .before .before .before .before .before .lay .ensures .end, c .before .before .before .before .lay3 .kept .1 .1 .1 .0, c .before .before .before .before .before .before .before .before .before .lay2 .kept .1 .1 .1 .0, c .before .before .before .before .before .before .before .before .before .before .before .before .before .before .lay .kept .1 .1 .1 .0, c .before .before .before .before .before .before .before .before .before .before .before .before .before .before .before .before .before .before .before .pre))
+    (λ c. search needs)
+    (λ c κs. omega (arith, sizes (now (c .before .before .before .before .before .before .before .before .before .before .before .before .before .before .before .before .before .before .before .before .before .before .before .before .args .line)), c .before .before .before .before .lay4 .ensures .end, c .before .before .before .before .before .before .before .before .before .lay3 .ensures .end, c .before .before .before .before .before .before .before .before .before .before .before .before .before .before .lay2 .ensures .end, c .before .before .before .before .before .before .before .before .before .before .before .before .before .before .before .before .before .before .before .lay .ensures .end, c .before .before .before .before .lay4 .kept .1 .1 .1 .0, c .before .before .before .before .before .before .before .before .before .lay3 .kept .1 .1 .1 .0, c .before .before .before .before .before .before .before .before .before .before .before .before .before .before .lay2 .kept .1 .1 .1 .0, c .before .before .before .before .before .before .before .before .before .before .before .before .before .before .before .before .before .before .before .lay .kept .1 .1 .1 .0, c .before .before .before .before .before .before .before .before .before .before .before .before .before .before .before .before .before .before .before .before .before .before .before .before .pre))
+    (λ c. search needs)
+    (λ c κs. omega (arith, sizes (now (c .before .before .before .before .before .before .before .before .before .before .before .before .before .before .before .before .before .before .before .before .before .before .before .before .before .before .before .before .before .args .line)), c .before .before .before .before .lay5 .ensures .end, c .before .before .before .before .before .before .before .before .before .lay4 .ensures .end, c .before .before .before .before .before .before .before .before .before .before .before .before .before .before .lay3 .ensures .end, c .before .before .before .before .before .before .before .before .before .before .before .before .before .before .before .before .before .before .before .lay2 .ensures .end, c .before .before .before .before .before .before .before .before .before .before .before .before .before .before .before .before .before .before .before .before .before .before .before .before .lay .ensures .end, c .before .before .before .before .lay5 .kept .1 .1 .1 .0, c .before .before .before .before .before .before .before .before .before .lay4 .kept .1 .1 .1 .0, c .before .before .before .before .before .before .before .before .before .before .before .before .before .before .lay3 .kept .1 .1 .1 .0, c .before .before .before .before .before .before .before .before .before .before .before .before .before .before .before .before .before .before .before .lay2 .kept .1 .1 .1 .0, c .before .before .before .before .before .before .before .before .before .before .before .before .before .before .before .before .before .before .before .before .before .before .before .before .lay .kept .1 .1 .1 .0, c .before .before .before .before .before .before .before .before .before .before .before .before .before .before .before .before .before .before .before .before .before .before .before .before .before .before .before .before .before .pre))
+    (λ c. search needs)
+    (λ c κs. omega (arith, sizes (now (c .before .before .before .before .before .before .before .before .before .before .before .before .before .before .before .before .before .before .before .before .before .before .before .before .before .before .before .before .before .before .before .before .before .before .args .line)), c .before .before .before .before .lay6 .ensures .end, c .before .before .before .before .before .before .before .before .before .lay5 .ensures .end, c .before .before .before .before .before .before .before .before .before .before .before .before .before .before .lay4 .ensures .end, c .before .before .before .before .before .before .before .before .before .before .before .before .before .before .before .before .before .before .before .lay3 .ensures .end, c .before .before .before .before .before .before .before .before .before .before .before .before .before .before .before .before .before .before .before .before .before .before .before .before .lay2 .ensures .end, c .before .before .before .before .before .before .before .before .before .before .before .before .before .before .before .before .before .before .before .before .before .before .before .before .before .before .before .before .before .lay .ensures .end, c .before .before .before .before .lay6 .kept .1 .1 .1 .0, c .before .before .before .before .before .before .before .before .before .lay5 .kept .1 .1 .1 .0, c .before .before .before .before .before .before .before .before .before .before .before .before .before .before .lay4 .kept .1 .1 .1 .0, c .before .before .before .before .before .before .before .before .before .before .before .before .before .before .before .before .before .before .before .lay3 .kept .1 .1 .1 .0, c .before .before .before .before .before .before .before .before .before .before .before .before .before .before .before .before .before .before .before .before .before .before .before .before .lay2 .kept .1 .1 .1 .0, c .before .before .before .before .before .before .before .before .before .before .before .before .before .before .before .before .before .before .before .before .before .before .before .before .before .before .before .before .before .lay .kept .1 .1 .1 .0, c .before .before .before .before .before .before .before .before .before .before .before .before .before .before .before .before .before .before .before .before .before .before .before .before .before .before .before .before .before .before .before .before .before .before .pre))
+    (λ c. c .before .before .lay7 .kept .1 .1 .1 .0 ∙ c .before .before .before .before .before .before .before .lay6 .kept .1 .1 .1 .0 ∙ c .before .before .before .before .before .before .before .before .before .before .before .before .lay5 .kept .1 .1 .1 .0 ∙ c .before .before .before .before .before .before .before .before .before .before .before .before .before .before .before .before .before .lay4 .kept .1 .1 .1 .0 ∙ c .before .before .before .before .before .before .before .before .before .before .before .before .before .before .before .before .before .before .before .before .before .before .lay3 .kept .1 .1 .1 .0 ∙ c .before .before .before .before .before .before .before .before .before .before .before .before .before .before .before .before .before .before .before .before .before .before .before .before .before .before .before .lay2 .kept .1 .1 .1 .0 ∙ c .before .before .before .before .before .before .before .before .before .before .before .before .before .before .before .before .before .before .before .before .before .before .before .before .before .before .before .before .before .before .before .before .lay .kept .1 .1 .1 .0)
     returns)

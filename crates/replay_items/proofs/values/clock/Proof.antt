@@ -3,15 +3,6 @@ use borrow.Author.Needs.{needs}
 use Rattle.replay_items.proofs.values.clock.Statement.{statement}
 use Rattle.replay_items.proofs.values.clock.Tie as tie
 
-slice-aggregate-number-of : tie.Need-slice-aggregate-number-of
-slice-aggregate-number-of c = search needs
-
-number-of-requires : tie.Need-number-of-requires
-number-of-requires c κs = tt
-
-enum-known-n : tie.Need-enum-known-n
-enum-known-n c = search needs
-
 enum-told : tie.Need-enum-told
 enum-told c = search needs
 
@@ -27,9 +18,9 @@ pub clock-spec : {M : Type 1} → statement M
 clock-spec =
     tie.close
     (tie.spec
-    slice-aggregate-number-of
-    number-of-requires
-    enum-known-n
+    (λ c. search needs)
+    (λ c κs. tt)
+    (λ c. search needs)
     enum-told
     returns
     returns-2)

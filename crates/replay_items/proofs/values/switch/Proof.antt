@@ -3,17 +3,8 @@ use borrow.Author.Needs.{needs}
 use Rattle.replay_items.proofs.values.switch.Statement.{statement}
 use Rattle.replay_items.proofs.values.switch.Tie as tie
 
-flag-of-requires : tie.Need-flag-of-requires
-flag-of-requires c κs = tt
-
 enum-told : tie.Need-enum-told
 enum-told c = search needs
-
-enum-told-2 : tie.Need-enum-told-2
-enum-told-2 c = search needs
-
-enum-told-3 : tie.Need-enum-told-3
-enum-told-3 c = search needs
 
 returns : tie.Need-returns
 unfolding switchAt
@@ -30,4 +21,11 @@ returns-3 c = rw (← c .before .before .flag-of .ensures, c .enum-told3 .given 
 pub switch-spec : {M : Type 1} → statement M
 switch-spec =
     tie.close
-    (tie.spec flag-of-requires enum-told enum-told-2 enum-told-3 returns returns-2 returns-3)
+    (tie.spec
+    (λ c κs. tt)
+    enum-told
+    (λ c. search needs)
+    (λ c. search needs)
+    returns
+    returns-2
+    returns-3)

@@ -4,15 +4,6 @@ use Rattle.replay_script.specs.Lists.{addFrame}
 use Rattle.replay_script.proofs.lists.add_frame.Statement.{statement}
 use Rattle.replay_script.proofs.lists.add_frame.Tie as tie
 
-add-out : tie.Need-add-out
-add-out c = search needs
-
-mul-frame : tie.Need-mul-frame
-mul-frame c = search needs
-
-element-set-from-frame : tie.Need-element-set-from-frame
-element-set-from-frame c = search needs
-
 returns : tie.Need-returns
 unfolding addFrame
 returns c = rw (c .before .before .if1 .taken, lt-ltb _ _ (c .before .if2 .taken))
@@ -27,4 +18,11 @@ returns-3 c = rw (c .if1 .left)
 
 pub add-frame-spec : {M : Type 1} → statement M
 add-frame-spec =
-    tie.close (tie.spec add-out mul-frame element-set-from-frame returns returns-2 returns-3)
+    tie.close
+    (tie.spec
+    (λ c. search needs)
+    (λ c. search needs)
+    (λ c. search needs)
+    returns
+    returns-2
+    returns-3)

@@ -4,15 +4,6 @@ use Rattle.replay_script.specs.Lists.{addMethod}
 use Rattle.replay_script.proofs.lists.add_method.Statement.{statement}
 use Rattle.replay_script.proofs.lists.add_method.Tie as tie
 
-add-out : tie.Need-add-out
-add-out c = search needs
-
-mul-method : tie.Need-mul-method
-mul-method c = search needs
-
-element-set-from-method : tie.Need-element-set-from-method
-element-set-from-method c = search needs
-
 returns : tie.Need-returns
 unfolding addMethod
 returns c = rw (c .before .before .if1 .taken, lt-ltb _ _ (c .before .if2 .taken))
@@ -27,4 +18,11 @@ returns-3 c = rw (c .if1 .left)
 
 pub add-method-spec : {M : Type 1} → statement M
 add-method-spec =
-    tie.close (tie.spec add-out mul-method element-set-from-method returns returns-2 returns-3)
+    tie.close
+    (tie.spec
+    (λ c. search needs)
+    (λ c. search needs)
+    (λ c. search needs)
+    returns
+    returns-2
+    returns-3)

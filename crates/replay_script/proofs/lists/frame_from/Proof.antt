@@ -3,14 +3,8 @@ use Rattle.replay_script.specs.Lists.{frameFrom}
 use Rattle.replay_script.proofs.lists.frame_from.Statement.{statement}
 use Rattle.replay_script.proofs.lists.frame_from.Tie as tie
 
-enum-known-id : tie.Need-enum-known-id
-enum-known-id c = search needs
-
 enum-told : tie.Need-enum-told
 enum-told c = search needs
-
-no-frame-requires : tie.Need-no-frame-requires
-no-frame-requires c κs = tt
 
 returns : tie.Need-returns
 unfolding frameFrom
@@ -20,9 +14,6 @@ returns-2 : tie.Need-returns-2
 unfolding frameFrom
 returns-2 c = rw (c .before .before .before .before .if1 .taken, c .before .enum-told .given .1, ← c .no-frame .ensures)
 
-no-frame-requires-2 : tie.Need-no-frame-requires-2
-no-frame-requires-2 c κs = tt
-
 returns-3 : tie.Need-returns-3
 unfolding frameFrom
 returns-3 c = rw (c .before .if1 .left, ← c .no-frame2 .ensures)
@@ -31,10 +22,10 @@ pub frame-from-spec : {M : Type 1} → statement M
 frame-from-spec =
     tie.close
     (tie.spec
-    enum-known-id
+    (λ c. search needs)
     enum-told
-    no-frame-requires
+    (λ c κs. tt)
     returns
     returns-2
-    no-frame-requires-2
+    (λ c κs. tt)
     returns-3)

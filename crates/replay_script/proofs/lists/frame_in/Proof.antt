@@ -6,9 +6,6 @@ use Rattle.replay_script.specs.Lists.{frameIn, cutAt}
 use Rattle.replay_script.proofs.lists.frame_in.Statement.{statement}
 use Rattle.replay_script.proofs.lists.frame_in.Tie as tie
 
-slashes-requires : tie.Need-slashes-requires
-slashes-requires c κs = tt
-
 slice-aggregate-can-id-in : tie.Need-slice-aggregate-can-id-in
 slice-aggregate-can-id-in c =
     let v = c .before .before .before .before .args .v .now in
@@ -40,9 +37,6 @@ part-can-id-in-end c =
     let ok = c .before .if1 .taken in
     omega (arith, s .first ok, s .second ok)
 
-can-id-in-requires : tie.Need-can-id-in-requires
-can-id-in-requires c κs = tt
-
 add-data-in : tie.Need-add-data-in
 add-data-in c =
     let s = c .before .before .before .before .slashes .ensures in
@@ -61,24 +55,12 @@ part-data-in-start c =
     let ok = c .before .before .before .if1 .taken in
     omega (arith, s .first ok, s .second ok)
 
-part-data-in-end : tie.Need-part-data-in-end
-part-data-in-end c = search needs
-
-data-in-requires : tie.Need-data-in-requires
-data-in-requires c κs = tt
-
-frame-from-requires : tie.Need-frame-from-requires
-frame-from-requires c κs = tt
-
 returns : tie.Need-returns
 unfolding frameIn cutAt
 returns c =
     let parts = c .before .before .before .before .before .before .before .slashes .ensures .parts in
     let ok = c .before .before .before .before .before .before .if1 .taken in
     rw (parts, ok, ← c .before .before .before .can-id-in .ensures, ← c .before .data-in .ensures, ← c .frame-from .ensures)
-
-no-frame-requires : tie.Need-no-frame-requires
-no-frame-requires c κs = tt
 
 returns-2 : tie.Need-returns-2
 unfolding frameIn cutAt
@@ -88,19 +70,19 @@ pub frame-in-spec : {M : Type 1} → statement M
 frame-in-spec =
     tie.close
     (tie.spec
-    slashes-requires
+    (λ c κs. tt)
     slice-aggregate-can-id-in
     add-can-id-in
     sub-can-id-in
     part-can-id-in-start
     part-can-id-in-end
-    can-id-in-requires
+    (λ c κs. tt)
     add-data-in
     sub-data-in
     part-data-in-start
-    part-data-in-end
-    data-in-requires
-    frame-from-requires
+    (λ c. search needs)
+    (λ c κs. tt)
+    (λ c κs. tt)
     returns
-    no-frame-requires
+    (λ c κs. tt)
     returns-2)

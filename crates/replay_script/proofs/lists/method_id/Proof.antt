@@ -10,21 +10,9 @@ use Rattle.replay_script.proofs.Laws.{id-made}
 use Rattle.replay_script.proofs.lists.method_id.Statement.{statement}
 use Rattle.replay_script.proofs.lists.method_id.Tie as tie
 
-is-bytes-requires : tie.Need-is-bytes-requires
-is-bytes-requires c κs = tt
-
-byte-count-requires : tie.Need-byte-count-requires
-byte-count-requires c κs = tt
-
 returns : tie.Need-returns
 unfolding methodId
 returns c = rw (← c .before .before .before .is-bytes .ensures, c .before .before .if1 .taken, ← c .before .byte-count .ensures, lt-ltb _ _ (c .if2 .taken))
-
-slice-aggregate-put-bytes : tie.Need-slice-aggregate-put-bytes
-slice-aggregate-put-bytes c = search needs
-
-put-bytes-requires : tie.Need-put-bytes-requires
-put-bytes-requires c κs = (sym (c .before .before .before .before .is-bytes .ensures) ∙ c .before .before .before .if1 .taken, omega (arith, c .before .before .byte-count .ensures, c .before .if2 .left))
 
 returns-2 : tie.Need-returns-2
 unfolding methodId
@@ -42,10 +30,10 @@ pub method-id-spec : {M : Type 1} → statement M
 method-id-spec =
     tie.close
     (tie.spec
-    is-bytes-requires
-    byte-count-requires
+    (λ c κs. tt)
+    (λ c κs. tt)
     returns
-    slice-aggregate-put-bytes
-    put-bytes-requires
+    (λ c. search needs)
+    (λ c κs. (sym (c .before .before .before .before .is-bytes .ensures) ∙ c .before .before .before .if1 .taken, omega (arith, c .before .before .byte-count .ensures, c .before .if2 .left)))
     returns-2
     returns-3)

@@ -6,18 +6,12 @@ use Rattle.replay_script.specs.Lists.{methodIn, cutAt}
 use Rattle.replay_script.proofs.lists.method_in.Statement.{statement}
 use Rattle.replay_script.proofs.lists.method_in.Tie as tie
 
-slashes-requires : tie.Need-slashes-requires
-slashes-requires c κs = tt
-
 slice-aggregate-method-id : tie.Need-slice-aggregate-method-id
 slice-aggregate-method-id c =
     let v = c .before .before .before .before .args .v .now in
     let s = c .before .before .slashes in
     let ok = c .before .if1 .taken in
     sym (length-take-le (s .result .one) v (omega (arith, s .ensures .first ok, s .ensures .second ok)))
-
-method-id-requires : tie.Need-method-id-requires
-method-id-requires c κs = tt
 
 add-kind-in : tie.Need-add-kind-in
 add-kind-in c =
@@ -43,9 +37,6 @@ part-kind-in-end c =
     let ok = c .before .before .if1 .taken in
     omega (arith, s .first ok, s .second ok)
 
-kind-in-requires : tie.Need-kind-in-requires
-kind-in-requires c κs = tt
-
 add-flag-in : tie.Need-add-flag-in
 add-flag-in c =
     let s = c .before .before .before .before .before .slashes .ensures in
@@ -64,15 +55,6 @@ part-flag-in-start c =
     let ok = c .before .before .before .before .if1 .taken in
     omega (arith, s .first ok, s .second ok)
 
-part-flag-in-end : tie.Need-part-flag-in-end
-part-flag-in-end c = search needs
-
-flag-in-requires : tie.Need-flag-in-requires
-flag-in-requires c κs = tt
-
-method-from-requires : tie.Need-method-from-requires
-method-from-requires c κs = tt
-
 returns : tie.Need-returns
 unfolding methodIn cutAt
 returns c =
@@ -80,9 +62,6 @@ returns c =
     let ok = c .before .before .before .before .before .before .before .if1 .taken in
     let id = c .before .before .before .before .before .method-id in
     rw (parts, ok, ← id .ensures, ← c .before .before .before .kind-in .ensures, ← c .before .flag-in .ensures, ← c .method-from .ensures)
-
-no-method-requires : tie.Need-no-method-requires
-no-method-requires c κs = tt
 
 returns-2 : tie.Need-returns-2
 unfolding methodIn cutAt
@@ -92,20 +71,20 @@ pub method-in-spec : {M : Type 1} → statement M
 method-in-spec =
     tie.close
     (tie.spec
-    slashes-requires
+    (λ c κs. tt)
     slice-aggregate-method-id
-    method-id-requires
+    (λ c κs. tt)
     add-kind-in
     sub-kind-in
     part-kind-in-start
     part-kind-in-end
-    kind-in-requires
+    (λ c κs. tt)
     add-flag-in
     sub-flag-in
     part-flag-in-start
-    part-flag-in-end
-    flag-in-requires
-    method-from-requires
+    (λ c. search needs)
+    (λ c κs. tt)
+    (λ c κs. tt)
     returns
-    no-method-requires
+    (λ c κs. tt)
     returns-2)

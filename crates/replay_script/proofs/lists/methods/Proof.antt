@@ -4,7 +4,8 @@ use Prim.Native.Nat.{_-_, _≤_}
 use native.Mathlib.Omega.{arith}
 use lib.ListN.{length, drop}
 use mathlib.Core.List.{[], _∷_}
-use Rattle.replay_script.specs.Words.{before, itemsOf, part}
+use Rattle.replay_script.specs.Words.{itemsOf, part}
+use Rattle.word_table.specs.Words.{before}
 use Rattle.replay_script.specs.Places.{valuesOf, shown}
 use Rattle.ascii.specs.Ascii.{ascii}
 use Rattle.replay_script.specs.Lists.{noMethods, addMethod, addMethods, methodIn}
@@ -18,38 +19,11 @@ Inv-loop line all₀ at₀ t8 all at = (t8 ≡ ascii "method") × (all .count �
 abbrev μ-loop : tie.MeasureT-loop
 μ-loop line all₀ at₀ t8 all at = length line - at
 
-no-methods-requires : tie.Need-no-methods-requires Inv-loop μ-loop
-no-methods-requires c κs = tt
-
 loop-holds : tie.Need-loop-holds Inv-loop μ-loop
 loop-holds c =
     let line = c .before .before .args .line .now in
     let e = c .no-methods .ensures in
     (refl, rw e (omega arith), rw e)
-
-slice-aggregate-next : tie.Need-slice-aggregate-next Inv-loop μ-loop
-slice-aggregate-next c = sym (ap length (c .before .before .loop .inv .0))
-
-next-requires : tie.Need-next-requires Inv-loop μ-loop
-next-requires c κs = tt
-
-sub-method-in : tie.Need-sub-method-in Inv-loop μ-loop
-sub-method-in c = omega (arith, c .before .next .ensures .ordered, c .before .next .ensures .inside)
-
-part-method-in-start : tie.Need-part-method-in-start Inv-loop μ-loop
-part-method-in-start c = omega (arith, c .before .next .ensures .ordered, c .before .next .ensures .inside)
-
-part-method-in-end : tie.Need-part-method-in-end Inv-loop μ-loop
-part-method-in-end c = omega (arith, c .before .next .ensures .ordered, c .before .next .ensures .inside)
-
-method-in-requires : tie.Need-method-in-requires Inv-loop μ-loop
-method-in-requires c κs = tt
-
-add-method-requires : tie.Need-add-method-requires Inv-loop μ-loop
-add-method-requires c κs = omega (arith, c .before .before .before .before .before .before .loop .inv .1)
-
-loop-less : tie.Need-loop-less Inv-loop μ-loop
-loop-less c = omega (arith, c .before .before .before .before .next .ensures .onward (c .before .before .before .if1 .taken), c .before .before .before .before .next .ensures .inside)
 
 loop-again : tie.Need-loop-again Inv-loop μ-loop
 unfolding addMethods shown addMethod
@@ -89,16 +63,16 @@ methods-spec =
     (tie.spec
     Inv-loop
     μ-loop
-    no-methods-requires
+    (λ c κs. tt)
     loop-holds
-    slice-aggregate-next
-    next-requires
-    sub-method-in
-    part-method-in-start
-    part-method-in-end
-    method-in-requires
-    add-method-requires
-    loop-less
+    (λ c. sym (ap length (c .before .before .loop .inv .0)))
+    (λ c κs. tt)
+    (λ c. omega (arith, c .before .next .ensures .ordered, c .before .next .ensures .inside))
+    (λ c. omega (arith, c .before .next .ensures .ordered, c .before .next .ensures .inside))
+    (λ c. omega (arith, c .before .next .ensures .ordered, c .before .next .ensures .inside))
+    (λ c κs. tt)
+    (λ c κs. omega (arith, c .before .before .before .before .before .before .loop .inv .1))
+    (λ c. omega (arith, c .before .before .before .before .next .ensures .onward (c .before .before .before .if1 .taken), c .before .before .before .before .next .ensures .inside))
     loop-again
     returns
     returns-2)

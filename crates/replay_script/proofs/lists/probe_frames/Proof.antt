@@ -4,7 +4,8 @@ use Prim.Native.Nat.{_-_, _≤_}
 use native.Mathlib.Omega.{arith}
 use lib.ListN.{length, drop}
 use mathlib.Core.List.{[], _∷_}
-use Rattle.replay_script.specs.Words.{before, itemsOf, part}
+use Rattle.replay_script.specs.Words.{itemsOf, part}
+use Rattle.word_table.specs.Words.{before}
 use Rattle.replay_script.specs.Places.{valuesOf, shown}
 use Rattle.ascii.specs.Ascii.{ascii}
 use Rattle.replay_script.specs.Lists.{noFrames, addFrame, addFrames, frameIn}
@@ -18,38 +19,11 @@ Inv-loop line all₀ at₀ t8 all at = (t8 ≡ ascii "frame") × (all .count ≤
 abbrev μ-loop : tie.MeasureT-loop
 μ-loop line all₀ at₀ t8 all at = length line - at
 
-no-frames-requires : tie.Need-no-frames-requires Inv-loop μ-loop
-no-frames-requires c κs = tt
-
 loop-holds : tie.Need-loop-holds Inv-loop μ-loop
 loop-holds c =
     let line = c .before .before .args .line .now in
     let e = c .no-frames .ensures in
     (refl, rw e (omega arith), rw e)
-
-slice-aggregate-next : tie.Need-slice-aggregate-next Inv-loop μ-loop
-slice-aggregate-next c = sym (ap length (c .before .before .loop .inv .0))
-
-next-requires : tie.Need-next-requires Inv-loop μ-loop
-next-requires c κs = tt
-
-sub-frame-in : tie.Need-sub-frame-in Inv-loop μ-loop
-sub-frame-in c = omega (arith, c .before .next .ensures .ordered, c .before .next .ensures .inside)
-
-part-frame-in-start : tie.Need-part-frame-in-start Inv-loop μ-loop
-part-frame-in-start c = omega (arith, c .before .next .ensures .ordered, c .before .next .ensures .inside)
-
-part-frame-in-end : tie.Need-part-frame-in-end Inv-loop μ-loop
-part-frame-in-end c = omega (arith, c .before .next .ensures .ordered, c .before .next .ensures .inside)
-
-frame-in-requires : tie.Need-frame-in-requires Inv-loop μ-loop
-frame-in-requires c κs = tt
-
-add-frame-requires : tie.Need-add-frame-requires Inv-loop μ-loop
-add-frame-requires c κs = omega (arith, c .before .before .before .before .before .before .loop .inv .1)
-
-loop-less : tie.Need-loop-less Inv-loop μ-loop
-loop-less c = omega (arith, c .before .before .before .before .next .ensures .onward (c .before .before .before .if1 .taken), c .before .before .before .before .next .ensures .inside)
 
 loop-again : tie.Need-loop-again Inv-loop μ-loop
 unfolding addFrames shown addFrame
@@ -89,16 +63,16 @@ probe-frames-spec =
     (tie.spec
     Inv-loop
     μ-loop
-    no-frames-requires
+    (λ c κs. tt)
     loop-holds
-    slice-aggregate-next
-    next-requires
-    sub-frame-in
-    part-frame-in-start
-    part-frame-in-end
-    frame-in-requires
-    add-frame-requires
-    loop-less
+    (λ c. sym (ap length (c .before .before .loop .inv .0)))
+    (λ c κs. tt)
+    (λ c. omega (arith, c .before .next .ensures .ordered, c .before .next .ensures .inside))
+    (λ c. omega (arith, c .before .next .ensures .ordered, c .before .next .ensures .inside))
+    (λ c. omega (arith, c .before .next .ensures .ordered, c .before .next .ensures .inside))
+    (λ c κs. tt)
+    (λ c κs. omega (arith, c .before .before .before .before .before .before .loop .inv .1))
+    (λ c. omega (arith, c .before .before .before .before .next .ensures .onward (c .before .before .before .if1 .taken), c .before .before .before .before .next .ensures .inside))
     loop-again
     returns
     returns-2)

@@ -5,27 +5,12 @@ use Rattle.replay_script.proofs.Laws.{never, cut-none, cut-one, cut-mor
 use Rattle.replay_script.proofs.lists.slashes.Statement.{statement}
 use Rattle.replay_script.proofs.lists.slashes.Tie as tie
 
-find-requires : tie.Need-find-requires
-find-requires c κs = tt
-
-no-slashes-requires : tie.Need-no-slashes-requires
-no-slashes-requires c κs = tt
-
 returns : tie.Need-returns
 unfolding cutAt
 returns c =
     let v = c .before .before .before .before .args .v .now in
     let f = c .before .before .find in
     rw (c .no-slashes .ensures) (record { parts = cut-none v (f .result) (f .ensures) (c .before .if1 .taken); first = never; second = never })
-
-add-find : tie.Need-add-find
-add-find c = search needs
-
-find-requires-2 : tie.Need-find-requires-2
-find-requires-2 c κs = tt
-
-no-slashes-requires-2 : tie.Need-no-slashes-requires-2
-no-slashes-requires-2 c κs = tt
 
 returns-2 : tie.Need-returns-2
 unfolding cutAt
@@ -34,15 +19,6 @@ returns-2 c =
     let f = c .before .before .before .before .find in
     let g = c .before .before .find2 in
     rw (c .no-slashes2 .ensures) (record { parts = cut-one v (f .result) (f .ensures) (g .result) (omega arith) (g .ensures) (c .before .if2 .taken); first = never; second = never })
-
-add-find-2 : tie.Need-add-find-2
-add-find-2 c = search needs
-
-find-requires-3 : tie.Need-find-requires-3
-find-requires-3 c κs = tt
-
-no-slashes-requires-3 : tie.Need-no-slashes-requires-3
-no-slashes-requires-3 c κs = tt
 
 returns-3 : tie.Need-returns-3
 unfolding cutAt
@@ -66,15 +42,15 @@ pub slashes-spec : {M : Type 1} → statement M
 slashes-spec =
     tie.close
     (tie.spec
-    find-requires
-    no-slashes-requires
+    (λ c κs. tt)
+    (λ c κs. tt)
     returns
-    add-find
-    find-requires-2
-    no-slashes-requires-2
+    (λ c. search needs)
+    (λ c κs. tt)
+    (λ c κs. tt)
     returns-2
-    add-find-2
-    find-requires-3
-    no-slashes-requires-3
+    (λ c. search needs)
+    (λ c κs. tt)
+    (λ c κs. tt)
     returns-3
     returns-4)

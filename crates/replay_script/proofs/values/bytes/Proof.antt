@@ -10,12 +10,6 @@ use Rattle.replay_script.specs.Values.{isBytes, asBytes, laidTo, layByte
 use Rattle.replay_script.proofs.values.bytes.Statement.{statement}
 use Rattle.replay_script.proofs.values.bytes.Tie as tie
 
-is-bytes-requires : tie.Need-is-bytes-requires
-is-bytes-requires c κs = tt
-
-byte-count-requires : tie.Need-byte-count-requires
-byte-count-requires c κs = tt
-
 returns : tie.Need-returns
 unfolding laidTo layBytes fitsIn
 returns c =
@@ -24,9 +18,6 @@ returns c =
     let f = lt-ltb (length (now (a .out))) (a .at + length (asBytes (a .form) (now (a .s)))) (omega arith) in
     (rw (h, f), rw (h, f))
 
-sub-if3 : tie.Need-sub-if3
-sub-if3 c = search needs
-
 returns-2 : tie.Need-returns-2
 unfolding laidTo layBytes fitsIn
 returns-2 c =
@@ -34,15 +25,6 @@ returns-2 c =
     let h : isBytes (a .form) (now (a .s)) ≡ true = sym (c .before .before .before .before .is-bytes .ensures) ∙ c .before .before .before .if1 .taken in
     let f = lt-ltb (length (now (a .out))) (a .at + length (asBytes (a .form) (now (a .s)))) (omega arith) in
     (rw (h, f), rw (h, f))
-
-put-bytes-requires : tie.Need-put-bytes-requires
-put-bytes-requires c κs = (sym (c .before .before .before .before .before .is-bytes .ensures) ∙ c .before .before .before .before .if1 .taken, omega arith)
-
-add-t7 : tie.Need-add-t7
-add-t7 c = search needs
-
-same-length : tie.Need-same-length
-same-length c = search needs
 
 returns-3 : tie.Need-returns-3
 unfolding laidTo layBytes fitsIn
@@ -64,13 +46,13 @@ pub bytes-spec : {M : Type 1} → statement M
 bytes-spec =
     tie.close
     (tie.spec
-    is-bytes-requires
-    byte-count-requires
+    (λ c κs. tt)
+    (λ c κs. tt)
     returns
-    sub-if3
+    (λ c. search needs)
     returns-2
-    put-bytes-requires
-    add-t7
-    same-length
+    (λ c κs. (sym (c .before .before .before .before .before .is-bytes .ensures) ∙ c .before .before .before .before .if1 .taken, omega arith))
+    (λ c. search needs)
+    (λ c. search needs)
     returns-3
     returns-4)

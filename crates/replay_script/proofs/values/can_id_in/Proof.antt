@@ -6,24 +6,12 @@ use Rattle.replay_script.proofs.Laws.{number-most}
 use Rattle.replay_script.proofs.values.can_id_in.Statement.{statement}
 use Rattle.replay_script.proofs.values.can_id_in.Tie as tie
 
-number-in-requires : tie.Need-number-in-requires
-number-in-requires c κs = search needs
-
-enum-known-n : tie.Need-enum-known-n
-enum-known-n c = search needs
-
 enum-told : tie.Need-enum-told
 enum-told c = search needs
 
 returns : tie.Need-returns
 unfolding idIn
 returns c = rw (← c .before .before .number-in .ensures, c .enum-told .given .1)
-
-slice-aggregate-same-bytes : tie.Need-slice-aggregate-same-bytes
-slice-aggregate-same-bytes c = search needs
-
-same-bytes-requires : tie.Need-same-bytes-requires
-same-bytes-requires c κs = tt
 
 cast-t10 : tie.Need-cast-t10
 cast-t10 c =
@@ -37,12 +25,6 @@ returns-2 c =
     let number = c .before .before .before .before .before .before .number-in in
     let given = c .before .before .before .before .n .given .1 in
     rw (← number .ensures, given, ← c .before .same-bytes .ensures, c .if1 .taken)
-
-slice-aggregate-same-bytes-2 : tie.Need-slice-aggregate-same-bytes-2
-slice-aggregate-same-bytes-2 c = search needs
-
-same-bytes-requires-2 : tie.Need-same-bytes-requires-2
-same-bytes-requires-2 c κs = tt
 
 cast-t15 : tie.Need-cast-t15
 cast-t15 c =
@@ -70,16 +52,16 @@ pub can-id-in-spec : {M : Type 1} → statement M
 can-id-in-spec =
     tie.close
     (tie.spec
-    number-in-requires
-    enum-known-n
+    (λ c κs. search needs)
+    (λ c. search needs)
     enum-told
     returns
-    slice-aggregate-same-bytes
-    same-bytes-requires
+    (λ c. search needs)
+    (λ c κs. tt)
     cast-t10
     returns-2
-    slice-aggregate-same-bytes-2
-    same-bytes-requires-2
+    (λ c. search needs)
+    (λ c κs. tt)
     cast-t15
     returns-3
     returns-4)

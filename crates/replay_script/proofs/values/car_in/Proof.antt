@@ -8,24 +8,9 @@ use Rattle.replay_script.proofs.Laws.{pairs-length, put-all}
 use Rattle.replay_script.proofs.values.car_in.Statement.{statement}
 use Rattle.replay_script.proofs.values.car_in.Tie as tie
 
-slice-aggregate-same-bytes : tie.Need-slice-aggregate-same-bytes
-slice-aggregate-same-bytes c = search needs
-
-same-bytes-requires : tie.Need-same-bytes-requires
-same-bytes-requires c κs = tt
-
 returns : tie.Need-returns
 unfolding carIn
 returns c = rw (← c .before .same-bytes .ensures, c .if1 .taken)
-
-is-hex-requires : tie.Need-is-hex-requires
-is-hex-requires c κs = tt
-
-slice-aggregate-put-pairs : tie.Need-slice-aggregate-put-pairs
-slice-aggregate-put-pairs c = search needs
-
-put-pairs-requires : tie.Need-put-pairs-requires
-put-pairs-requires c κs = (sym (c .before .before .is-hex .ensures) ∙ c .before .if3 .taken, search needs)
 
 returns-2 : tie.Need-returns-2
 unfolding carIn
@@ -53,12 +38,12 @@ pub car-in-spec : {M : Type 1} → statement M
 car-in-spec =
     tie.close
     (tie.spec
-    slice-aggregate-same-bytes
-    same-bytes-requires
+    (λ c. search needs)
+    (λ c κs. tt)
     returns
-    is-hex-requires
-    slice-aggregate-put-pairs
-    put-pairs-requires
+    (λ c κs. tt)
+    (λ c. search needs)
+    (λ c κs. (sym (c .before .before .is-hex .ensures) ∙ c .before .if3 .taken, search needs))
     returns-2
     returns-3
     returns-4)

@@ -8,15 +8,6 @@ use Rattle.replay_script.proofs.Laws.{pairs-length, put-all}
 use Rattle.replay_script.proofs.values.data_in.Statement.{statement}
 use Rattle.replay_script.proofs.values.data_in.Tie as tie
 
-is-hex-requires : tie.Need-is-hex-requires
-is-hex-requires c κs = tt
-
-slice-aggregate-put-pairs : tie.Need-slice-aggregate-put-pairs
-slice-aggregate-put-pairs c = search needs
-
-put-pairs-requires : tie.Need-put-pairs-requires
-put-pairs-requires c κs = (sym (c .before .before .is-hex .ensures) ∙ c .before .if2 .taken, search needs)
-
 returns : tie.Need-returns
 unfolding dataIn
 returns c =
@@ -38,9 +29,9 @@ pub data-in-spec : {M : Type 1} → statement M
 data-in-spec =
     tie.close
     (tie.spec
-    is-hex-requires
-    slice-aggregate-put-pairs
-    put-pairs-requires
+    (λ c κs. tt)
+    (λ c. search needs)
+    (λ c κs. (sym (c .before .before .is-hex .ensures) ∙ c .before .if2 .taken, search needs))
     returns
     returns-2
     returns-3)

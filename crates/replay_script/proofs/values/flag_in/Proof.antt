@@ -3,21 +3,9 @@ use Rattle.replay_script.specs.Values.{flagIn}
 use Rattle.replay_script.proofs.values.flag_in.Statement.{statement}
 use Rattle.replay_script.proofs.values.flag_in.Tie as tie
 
-slice-aggregate-same-bytes : tie.Need-slice-aggregate-same-bytes
-slice-aggregate-same-bytes c = search needs
-
-same-bytes-requires : tie.Need-same-bytes-requires
-same-bytes-requires c κs = tt
-
 returns : tie.Need-returns
 unfolding flagIn
 returns c = rw (← c .before .same-bytes .ensures, c .if1 .taken)
-
-slice-aggregate-same-bytes-2 : tie.Need-slice-aggregate-same-bytes-2
-slice-aggregate-same-bytes-2 c = search needs
-
-same-bytes-requires-2 : tie.Need-same-bytes-requires-2
-same-bytes-requires-2 c κs = tt
 
 returns-2 : tie.Need-returns-2
 unfolding flagIn
@@ -35,10 +23,10 @@ pub flag-in-spec : {M : Type 1} → statement M
 flag-in-spec =
     tie.close
     (tie.spec
-    slice-aggregate-same-bytes
-    same-bytes-requires
+    (λ c. search needs)
+    (λ c κs. tt)
     returns
-    slice-aggregate-same-bytes-2
-    same-bytes-requires-2
+    (λ c. search needs)
+    (λ c κs. tt)
     returns-2
     returns-3)

@@ -15,21 +15,6 @@ Inv-loop s base most v₀ i₀ v i = (i ≤ length s) × (numberIn base most s �
 abbrev μ-loop : tie.MeasureT-loop
 μ-loop s base most v₀ i₀ v i = length s - i
 
-returns : tie.Need-returns Inv-loop μ-loop
-returns c = sym (number-none _ _ _ (c .if1 .taken))
-
-loop-holds : tie.Need-loop-holds Inv-loop μ-loop
-loop-holds c = (omega arith, number-some _ _ _ (c .if1 .left))
-
-shared-slice-read-digit : tie.Need-shared-slice-read-digit Inv-loop μ-loop
-shared-slice-read-digit c = omega arith
-
-digit-requires : tie.Need-digit-requires Inv-loop μ-loop
-digit-requires c κs = tt
-
-wide-requires : tie.Need-wide-requires Inv-loop μ-loop
-wide-requires c κs = tt
-
 returns-2 : tie.Need-returns-2 Inv-loop μ-loop
 returns-2 c =
     let a = c .before .before .before .before .before .before .before .before .args in
@@ -45,9 +30,6 @@ returns-3 c =
     let e : d ≡ digitOf (getD (a .s .now) (l .i) 0) = c .before .before .wide .ensures ∙ c .before .before .before .digit .ensures in
     let turn = number-turn (a .base) (a .most) (l .v) (a .s .now) (l .i) (omega arith) in
     rw (l .inv .1, turn, ← e, lt-leb _ _ (c .before .if2 .left), lt-ltb (a .most) (l .v * a .base + d) (omega arith))
-
-div-room : tie.Need-div-room Inv-loop μ-loop
-div-room c = omega arith
 
 returns-4 : tie.Need-returns-4 Inv-loop μ-loop
 returns-4 c =
@@ -73,12 +55,6 @@ add-v c =
     let d = c .before .before .before .wide .result in
     omega (arith, under (a .base) (a .most) (l .v) d (omega arith) (c .before .if3 .left) (c .if4 .left))
 
-add-i : tie.Need-add-i Inv-loop μ-loop
-add-i c = omega arith
-
-loop-less : tie.Need-loop-less Inv-loop μ-loop
-loop-less c = omega arith
-
 loop-again : tie.Need-loop-again Inv-loop μ-loop
 loop-again c =
     let a = c .before .before .before .before .before .before .before .before .before .before .args in
@@ -101,18 +77,18 @@ number-in-spec =
     (tie.spec
     Inv-loop
     μ-loop
-    returns
-    loop-holds
-    shared-slice-read-digit
-    digit-requires
-    wide-requires
+    (λ c. sym (number-none _ _ _ (c .if1 .taken)))
+    (λ c. (omega arith, number-some _ _ _ (c .if1 .left)))
+    (λ c. omega arith)
+    (λ c κs. tt)
+    (λ c κs. tt)
     returns-2
     returns-3
-    div-room
+    (λ c. omega arith)
     returns-4
     mul-v
     add-v
-    add-i
-    loop-less
+    (λ c. omega arith)
+    (λ c. omega arith)
     loop-again
     returns-5)

@@ -8,26 +8,11 @@ use Rattle.replay_script.proofs.Laws.{pairs-length, text-long, text-par
 use Rattle.replay_script.proofs.values.put_bytes.Statement.{statement}
 use Rattle.replay_script.proofs.values.put_bytes.Tie as tie
 
-is-text-requires : tie.Need-is-text-requires
-is-text-requires c κs = tt
-
-sub-put : tie.Need-sub-put
-sub-put c = let a = c .before .before .before .before .before .args in text-long (a .form) (now (a .s)) (sym (c .before .before .is-text .ensures) ∙ c .before .if1 .taken)
-
-part-put-start : tie.Need-part-put-start
-part-put-start c = let a = c .before .before .before .before .before .args in text-long (a .form) (now (a .s)) (sym (c .before .before .is-text .ensures) ∙ c .before .if1 .taken)
-
-part-put-end : tie.Need-part-put-end
-part-put-end c = search needs
-
 put-requires : tie.Need-put-requires
 put-requires c κs =
     let s = c .before .before .before .before .before .before in
     let e = text-bytes (s .args .form) (now (s .args .s)) (sym (c .before .before .before .is-text .ensures) ∙ c .before .before .if1 .taken) in
     rw (text-part (now (s .args .s)), ← e) (s .pre .1)
-
-same-length : tie.Need-same-length
-same-length c = search needs
 
 returns : tie.Need-returns
 unfolding asBytes
@@ -41,9 +26,6 @@ put-pairs-requires c κs =
     let e = hex-bytes (s .args .form) (now (s .args .s)) (sym (c .before .before .is-text .ensures) ∙ c .before .if1 .left) in
     (sym (e .1) ∙ s .pre .0, omega (arith, s .pre .1, ap length (e .0), pairs-length (now (s .args .s))))
 
-same-length-2 : tie.Need-same-length-2
-same-length-2 c = search needs
-
 returns-2 : tie.Need-returns-2
 unfolding asBytes
 returns-2 c = rw (← c .before .before .before .before .before .is-text .ensures, c .before .before .before .before .if1 .left) (c .before .before .put-pairs .ensures)
@@ -52,13 +34,13 @@ pub put-bytes-spec : {M : Type 1} → statement M
 put-bytes-spec =
     tie.close
     (tie.spec
-    is-text-requires
-    sub-put
-    part-put-start
-    part-put-end
+    (λ c κs. tt)
+    (λ c. let a = c .before .before .before .before .before .args in text-long (a .form) (now (a .s)) (sym (c .before .before .is-text .ensures) ∙ c .before .if1 .taken))
+    (λ c. let a = c .before .before .before .before .before .args in text-long (a .form) (now (a .s)) (sym (c .before .before .is-text .ensures) ∙ c .before .if1 .taken))
+    (λ c. search needs)
     put-requires
-    same-length
+    (λ c. search needs)
     returns
     put-pairs-requires
-    same-length-2
+    (λ c. search needs)
     returns-2)
