@@ -1,5 +1,5 @@
-//! What document 01 adds around the source or gives another form (listed in ADDED.md). Each function decides only what
-//! the source cannot, and leaves the rest to it.
+//! What documents 01 and 02 add around the source or give another form (listed in ADDED.md). Each function decides only
+//! what the source cannot, and leaves the rest to it.
 
 use crate::answer::{Answer, Refusal, Values};
 use crate::calls::Call;
@@ -160,13 +160,28 @@ fn refusal_values(error: ValidationError, data: Data) -> Values {
     }
 }
 
-/// 20 before anything else, and 21.
+/// W-202: bytes 32 and 45, each alone between two digits, are dropped. Trimming first would give the same, since no
+/// digit is trimmed.
+fn ungrouped(typed: &str) -> String {
+    let bytes = typed.as_bytes();
+    let is_digit = |at: usize| bytes.get(at).is_some_and(|byte| (48..=57).contains(byte));
+    let mut kept = Vec::new();
+    for (at, byte) in bytes.iter().enumerate() {
+        let between = at > 0 && is_digit(at - 1) && is_digit(at + 1);
+        if !(between && matches!(byte, 32 | 45)) {
+            kept.push(*byte);
+        }
+    }
+    String::from_utf8(kept).expect("whole characters were dropped")
+}
+
+/// 20 before anything else, and 21. The source is told the code without its groups.
 fn submit(phone: &[u8], code: &[u8], now: u64) -> Outcome {
     let Ok(code) = std::str::from_utf8(code) else {
         return refused(Refusal::NotText);
     };
     let before = Before::now();
-    let result = validation::submit_validation_code(phone, code, now);
+    let result = validation::submit_validation_code(phone, &ungrouped(code), now);
     if before.take_back_if_full() {
         return refused(Refusal::ListFull);
     }

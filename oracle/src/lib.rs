@@ -1,7 +1,7 @@
 //! The oracle: the access gate's Rust source, run call by call from a script.
 //!
 //! `items` and `calls` read and write scripts (docs/REPLAY.md), `gate` runs a call on the source, `added` holds what
-//! document 01 adds around it (ADDED.md), `queries` the calls that change nothing, `answer` what is printed, `state`
+//! documents 01 and 02 add around it (ADDED.md), `queries` the calls that change nothing, `answer` what is printed, `state`
 //! the dump of the source's statics, `wrong` deliberate mistakes for testing the comparison itself.
 
 pub mod added;

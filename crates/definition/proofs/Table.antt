@@ -8,7 +8,7 @@ use Rattle.phones.specs.Phones.{idBytes, idInRange, idOf, idsIn, listInRange, l
 use Rattle.frames.specs.Frames.{isEntry}
 use Rattle.draw.specs.Draw.{digits, drawLimit, drawn, firstBelow, group}
 use Rattle.text.specs.Utf8.{begins3, begins4, decode, decode2, decode3, decode4, encode, encodeAll, scalar, scalars, utf8-2, utf8-3, utf8-4, within}
-use Rattle.text.specs.Text.{isText, right, trim, trimFront, trimmed, white}
+use Rattle.text.specs.Text.{beginsDigit, isDigit, isDropped, isSeparator, isText, right, trim, trimFront, trimmed, ungrouped, ungroupedFrom, white}
 use Rattle.phone_fields.specs.PhoneFields.{anyLong, before, field, fields, overLimits, readFields}
 use Rattle.saved_record.specs.SavedRecord.{decoded, decodedBody, encoded, judged, nothingAfter, readCounted, readPhones, refusal, restored}
 use Rattle.decimal.specs.Decimal.{digitsUpTo, decimalOf}
@@ -50,7 +50,7 @@ unfolding decode3 decode4 white trimFront trim isText trimmed right field fields
 openLeaves3 = tt
 
 unfoldable openLeaves4 : Unit {0}
-unfolding overLimits judged decodedBody decoded refusal restored
+unfolding isDigit isSeparator beginsDigit isDropped ungroupedFrom ungrouped overLimits judged decodedBody decoded refusal restored
 openLeaves4 = tt
 
 unfoldable openListing : Unit {0}

@@ -1,4 +1,5 @@
--- The cases P1 to P13 of document 01, in its order and words: what the gate gives, beside what 01 says. proofs/Table.antt proves them.
+-- The cases P1 to P13 of document 01, in its order and words, P5 as W-202 of document 02 has it: what the gate gives, beside what they
+-- say. proofs/Table.antt proves them.
 use mathlib.Core.Path.{_≡_}
 use mathlib.Core.Bool.{Bool, true, false}
 use mathlib.Core.List.{List, [], _∷_, _++_, map}
@@ -134,13 +135,13 @@ p1-p4 =
 abbrev pub typed : List ℕ → Observed
 typed bytes = answerAfter knownCar (start 1_000 ∷ []) (submitValidationCode phone bytes 2_000)
 
--- P5 code 1234: " 1234" and C2 A0 before 1234 are right; "12 34" is wrong.
+-- P5 code 1234: " 1234" and C2 A0 before 1234 are right; "12 34" is right (W-202).
 abbrev pub p5 : List Row
 p5 =
     (code (afterAll knownCar (start 1_000 ∷ []) .code) gives code (nine "1234")) ∷
     (typed (ascii " 1234") gives says (sessionOf Succeeded 3 0 0)) ∷
     (typed (0xC2 ∷ 0xA0 ∷ ascii "1234") gives says (sessionOf Succeeded 3 0 0)) ∷
-    (typed (ascii "12 34") gives refused 10 (sessionOf InProgress 2 59 0)) ∷ []
+    (typed (ascii "12 34") gives says (sessionOf Succeeded 3 0 0)) ∷ []
 
 -- P6 start at 1,000: 60 s left; at 60,001, 1 s; at 61,000, 0 s and InProgress until a tick.
 abbrev pub p6 : List Row

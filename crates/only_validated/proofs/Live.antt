@@ -16,7 +16,7 @@ use Rattle.sha256.specs.Sha256.{K, padLast, W, rounds, hashFrom, sha256}
 use Rattle.car_digest.specs.CarDigest.{domain, carMessage, carDigest}
 use Rattle.draw.specs.Draw.{digits, drawLimit, drawn, firstBelow, group}
 use Rattle.text.specs.Utf8.{decode, encode, encodeAll}
-use Rattle.text.specs.Text.{isText, right, trim, trimFront, trimmed, white}
+use Rattle.text.specs.Text.{beginsDigit, isDigit, isDropped, isSeparator, isText, right, trim, trimFront, trimmed, ungrouped, ungroupedFrom, white}
 use Rattle.text.specs.Utf8 as Utf8
 use Rattle.phone_fields.specs.PhoneFields.{anyLong, before, field, fields, overLimits, readFields}
 use Rattle.saved_record.specs.SavedRecord.{decoded, decodedBody, encoded, judged, nothingAfter, readCounted, readPhones}
@@ -83,9 +83,9 @@ ready =
     onLists (Gate.addPairedPhone phone) ∷
     onLists (Gate.addPairedPhone other) ∷ [])
 
--- the phone starts a session whose code is 1234, and types it
+-- the phone starts a session whose code is 1234, and types it in groups, 12 34
 abbrev codeTyped : List Call
-codeTyped = start 1_000 ∷ submitValidationCode phone (49 ∷ 50 ∷ 51 ∷ 52 ∷ []) 2_000 ∷ []
+codeTyped = start 1_000 ∷ submitValidationCode phone (49 ∷ 50 ∷ 32 ∷ 51 ∷ 52 ∷ []) 2_000 ∷ []
 
 -- the phone starts a session, and the action is done in the car
 abbrev actionDone : List Call
@@ -124,7 +124,7 @@ pub record Examples : Type 0 where
   pub otherBus : readOnly (ready ++ codeTyped ++ onBike (4 ∷ [])) ≡ plain No
 
 pub examples : Examples
-unfolding padded sameBytes contains idBytes idInRange idOf idsIn joined kept listInRange listOf phonesOf pushed removeAll roomFor someOf tooLong K padLast W rounds hashFrom sha256 domain carMessage carDigest digits drawLimit drawn firstBelow group decode encode encodeAll Utf8.within isText right trim trimFront trimmed white anyLong before decoded decodedBody encoded field fields judged overLimits readCounted readFields nothingAfter readPhones Range.within Range.settingsFit Range.allOf Range.printable Range.methodFits Range.allFit Range.methodsIn Range.methodsFit Running.methodAt Running.cleanMethod Running.inProgress Running.codeInProgress Range.triesFit Range.sessionFits Range.windowFits Range.coreFits Range.inRange view listsStay Replies.leave Replies.quiet Replies.reply Replies.notified Replies.finish Policy.fingerprintConfirmed Policy.isIdentified Policy.approvedCar Policy.allowsReadWrite Policy.isReadOnly Policy.isFdBus Policy.isBusReadOnly Changes.policyChanged Access.approve DevLock.declareProduction CarIdentity.confirmPlatform CarIdentity.confirmFingerprint Can.lockAsked Can.setReadOnly Trust.isPaired Trust.ofThisCar Trust.isValidated Store.storeOf Store.forgetting Store.forget Store.restore Store.isOfCar Store.isOfOtherCar Store.isFull Store.validating Pairing.pair Tx.allowsCommand Tx.allow Times.saturatingAdd Session.endedAs Session.isOf Session.lostReadWrite Session.noteAt Session.cannotGoOn Session.lapseOf Session.placeFrom Session.placeOf Times.nextNumber checked Validation.endSession Validation.runsFor Validation.startChecks Validation.newSession Validation.begin Validation.startAt Validation.start Validation.succeededCore Validation.succeed Validation.rightCode Validation.judge Validation.submitted Validation.submit Validation.isAction Validation.completed Validation.complete Query.answerTo Answers.ifInRange New.newMethods New.newCore New.madeCore New.newGate Gate.saying Gate.served Gate.ended Gate.listing Gate.said Gate.says Gate.left Gate.gives step
+unfolding padded sameBytes contains idBytes idInRange idOf idsIn joined kept listInRange listOf phonesOf pushed removeAll roomFor someOf tooLong K padLast W rounds hashFrom sha256 domain carMessage carDigest digits drawLimit drawn firstBelow group decode encode encodeAll Utf8.within isDigit isSeparator beginsDigit isDropped ungroupedFrom ungrouped isText right trim trimFront trimmed white anyLong before decoded decodedBody encoded field fields judged overLimits readCounted readFields nothingAfter readPhones Range.within Range.settingsFit Range.allOf Range.printable Range.methodFits Range.allFit Range.methodsIn Range.methodsFit Running.methodAt Running.cleanMethod Running.inProgress Running.codeInProgress Range.triesFit Range.sessionFits Range.windowFits Range.coreFits Range.inRange view listsStay Replies.leave Replies.quiet Replies.reply Replies.notified Replies.finish Policy.fingerprintConfirmed Policy.isIdentified Policy.approvedCar Policy.allowsReadWrite Policy.isReadOnly Policy.isFdBus Policy.isBusReadOnly Changes.policyChanged Access.approve DevLock.declareProduction CarIdentity.confirmPlatform CarIdentity.confirmFingerprint Can.lockAsked Can.setReadOnly Trust.isPaired Trust.ofThisCar Trust.isValidated Store.storeOf Store.forgetting Store.forget Store.restore Store.isOfCar Store.isOfOtherCar Store.isFull Store.validating Pairing.pair Tx.allowsCommand Tx.allow Times.saturatingAdd Session.endedAs Session.isOf Session.lostReadWrite Session.noteAt Session.cannotGoOn Session.lapseOf Session.placeFrom Session.placeOf Times.nextNumber checked Validation.endSession Validation.runsFor Validation.startChecks Validation.newSession Validation.begin Validation.startAt Validation.start Validation.succeededCore Validation.succeed Validation.rightCode Validation.judge Validation.submitted Validation.submit Validation.isAction Validation.completed Validation.complete Query.answerTo Answers.ifInRange New.newMethods New.newCore New.madeCore New.newGate Gate.saying Gate.served Gate.ended Gate.listing Gate.said Gate.says Gate.left Gate.gives step
 examples = record {
   byCode = refl;
   byAction = refl;

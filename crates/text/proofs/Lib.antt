@@ -4,4 +4,6 @@ pub mod Octets
 pub mod Utf8
 pub mod Scan
 pub mod Same
+pub mod Groups
+pub mod Spaced
 pub mod Cases

@@ -18,7 +18,7 @@ pub and-true : (s t : Bool) → (s && t) ≡ true → (s ≡ true) × (t ≡ tru
 and-true true t e = (refl, e)
 and-true false t e = absurd (false≢true e)
 
-or-true : (s t : Bool) → (s || t) ≡ true → (s ≡ true) ⊎ (t ≡ true)
+pub or-true : (s t : Bool) → (s || t) ≡ true → (s ≡ true) ⊎ (t ≡ true)
 or-true true t e = inl refl
 or-true false t e = inr e
 

@@ -1,3 +1,4 @@
 pub mod Utf8
 pub mod Text
+pub mod Spaced
 pub mod Steps

@@ -1,10 +1,11 @@
 -- What the private functions answer, on the way to what Text says. Only their contracts cite it.
 use mathlib.Core.Path.{_≡_}
-use mathlib.Core.Bool.{true, false, cond}
+use mathlib.Core.Bool.{Bool, true, false, cond}
 use mathlib.Core.List.{List, [], _∷_}
-use Prim.Native.Nat.{ℕ, _-_, _≤_}
+use Prim.Native.Nat.{ℕ, _+_, _-_, _≤_}
 use lib.Dec.{eqb}
-use lib.ListN.{length, take, drop}
+use lib.ListN.{length, take, drop, set}
+use Rattle.arrays.specs.Arrays.{padded}
 use Rattle.text.specs.Utf8.{utf8-1, utf8-2, utf8-3, utf8-4, point2, point3, point4}
 use Rattle.text.specs.Text.{white, isText, trimmed}
 use Rattle.text.specs.declared.Char.{Char}
@@ -12,6 +13,7 @@ use Rattle.text.specs.declared.Char.the-variants.{Point, Bad}
 use Rattle.text.specs.declared.Span.{Span}
 use Rattle.text.specs.declared.Trimmed.{Trimmed}
 use Rattle.text.specs.declared.Trimmed.the-variants.{Text, NotText}
+use Rattle.text.specs.declared.Grouped.{Grouped}
 
 -- the character that a string begins with, and its number of octets
 unfoldable pub first4 : ℕ → ℕ → ℕ → List ℕ → Char
@@ -48,3 +50,11 @@ part a e s = take (e - a) (drop a s)
 abbrev pub Says : List ℕ → Trimmed → Type 0
 Says s NotText = isText s ≡ false
 Says s (Text a e) = (isText s ≡ true) × (trimmed s ≡ part a e s) × (a ≤ e) × (e ≤ length s)
+
+-- the first ten bytes of a string, zeros past them, and how many they are
+unfoldable pub firstTen : List ℕ → Grouped
+firstTen s = record { bytes = padded 10 0 (take 10 s); len = length (take 10 s) }
+
+-- one byte more behind them, unless it is dropped
+unfoldable pub keptOf : Grouped → ℕ → Bool → Grouped
+keptOf g b dropped = cond dropped g (record { bytes = set (g .bytes) (g .len) b; len = g .len + 1 })

@@ -1,4 +1,5 @@
--- The typed code: is it text, White_Space trimmed, is it right (document 01, "Submit a code" and "Sessions and codes").
+-- The typed code: is it text, White_Space trimmed, separators between digits dropped, is it right (document 01, "Submit a code" and
+-- "Sessions and codes"; document 02, W-202).
 use mathlib.Core.Bool.{Bool, true, false, cond, _&&_, _||_}
 use mathlib.Core.List.{List, [], _∷_, reverse}
 use mathlib.Core.Option.{Option, none, some}
@@ -47,6 +48,31 @@ isText s = isSome (decode s)
 unfoldable pub trimmed : List ℕ → List ℕ
 trimmed s = trimmedOf (decode s)
 
--- typed is right for the first n bytes of code
+-- a digit, as a draw gives it
+unfoldable pub isDigit : ℕ → Bool
+isDigit b = within 48 57 b
+
+-- a space or a hyphen
+unfoldable pub isSeparator : ℕ → Bool
+isSeparator b = eqb b 32 || eqb b 45
+
+unfoldable pub beginsDigit : List ℕ → Bool
+beginsDigit [] = false
+beginsDigit (b ∷ s) = isDigit b
+
+-- the byte b is dropped: one separator standing between two digits; `behind`: the byte before it is a digit; s: the bytes after it
+unfoldable pub isDropped : Bool → ℕ → List ℕ → Bool
+isDropped behind b s = behind && isSeparator b && beginsDigit s
+
+-- every neighbour is looked at where it was typed, dropped or not
+unfoldable pub ungroupedFrom : Bool → List ℕ → List ℕ
+ungroupedFrom behind [] = []
+ungroupedFrom behind (b ∷ s) = cond (isDropped behind b s) (ungroupedFrom (isDigit b) s) (b ∷ ungroupedFrom (isDigit b) s)
+
+-- what is left once separators are dropped; before the first byte there is none, and so no digit
+unfoldable pub ungrouped : List ℕ → List ℕ
+ungrouped s = ungroupedFrom false s
+
+-- typed is right for the first n bytes of code: text, trimmed, then ungrouped, that is these
 unfoldable pub right : List ℕ → ℕ → List ℕ → Bool
-right code n typed = isText typed && sameBytes (trimmed typed) (take n code)
+right code n typed = isText typed && sameBytes (ungrouped (trimmed typed)) (take n code)

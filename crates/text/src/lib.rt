@@ -1,11 +1,12 @@
-// A typed code: whether it is text, and whether it is right once White_Space is trimmed.
+// A typed code: whether it is text, and whether it is right once White_Space is trimmed and separators between digits are dropped.
 ghost use mathlib.Core.Path.{_≡_};
-ghost use Prim.Native.Nat.{min};
+ghost use Prim.Native.Nat.{min, _<_};
+ghost use lib.ListN.{take};
 ghost use Rattle.arrays.specs.Arrays.{sameBytes};
 ghost use Rattle.text.specs.Utf8 as Utf8;
 ghost use Rattle.text.specs.Utf8.{utf8-tail, utf8-2, utf8-3, utf8-4};
-ghost use Rattle.text.specs.Text.{white, isText, right};
-ghost use Rattle.text.specs.Steps.{firstChar, turnOf, Says};
+ghost use Rattle.text.specs.Text.{white, isText, isDigit, isSeparator, beginsDigit, isDropped, ungrouped, right};
+ghost use Rattle.text.specs.Steps.{firstChar, turnOf, Says, firstTen, keptOf};
 
 // The character that a string begins with: its code point and its number of bytes.
 enum Char {
@@ -24,6 +25,12 @@ struct Span {
 enum Trimmed {
     Text(usize, usize),
     NotText,
+}
+
+// What is left of a text without separators, as far as ten bytes: one more than the longest code has.
+struct Grouped {
+    bytes: [u8; 10],
+    len: usize,
 }
 
 fn wide(x: u8) -> u32
@@ -205,6 +212,84 @@ fn trim(s: &[u8]) -> Trimmed
     Trimmed::Text(t.start, t.end)
 }
 
+// A digit, as a draw gives it.
+fn is_digit(b: u8) -> bool
+    ensures { λ r. ⌜ r ≡ isDigit b ⌝ }
+{
+    within(48, 57, wide(b))
+}
+
+// A space or a hyphen.
+fn is_separator(b: u8) -> bool
+    ensures { λ r. ⌜ r ≡ isSeparator b ⌝ }
+{
+    if b == 32 {
+        return true;
+    }
+    b == 45
+}
+
+fn begins_digit(s: &[u8]) -> bool
+    ensures { λ r. ⌜ r ≡ beginsDigit (now (s .entry)) ⌝ }
+{
+    if s.len() < 1 {
+        return false;
+    }
+    is_digit(s[0])
+}
+
+// Whether b is one separator between two digits: `behind` of a digit, and before the first of s.
+fn is_dropped(behind: bool, b: u8, s: &[u8]) -> bool
+    ensures { λ r. ⌜ r ≡ isDropped behind b (now (s .entry)) ⌝ }
+{
+    if behind {
+        if is_separator(b) {
+            return begins_digit(s);
+        }
+    }
+    false
+}
+
+// One turn of ungroup.
+fn keep(g: Grouped, b: u8, dropped: bool) -> Grouped
+    requires { ⌜ g .len < 10 ⌝ }
+    ensures { λ r. ⌜ r ≡ keptOf g b dropped ⌝ }
+{
+    if dropped {
+        return g;
+    }
+    let at = g.len;
+    let mut bytes = g.bytes;
+    bytes[at] = b;
+    Grouped {
+        bytes: bytes,
+        len: at + 1,
+    }
+}
+
+// What is left of s once separators between digits are dropped, as far as ten bytes.
+fn ungroup(s: &[u8]) -> Grouped
+    ensures { λ r. ⌜ r ≡ firstTen (ungrouped (now (s .entry))) ⌝ }
+{
+    let mut g = Grouped {
+        bytes: [0; 10],
+        len: 0,
+    };
+    let mut behind = false;
+    let mut i = 0;
+    while i < s.len() {
+        if 10 <= g.len {
+            return g;
+        }
+        let b = s[i];
+        i += 1;
+        let dropped = is_dropped(behind, b, &s[i..]);
+        g = keep(g, b, dropped);
+        behind = is_digit(b);
+    }
+    g
+}
+
 // Whether two byte strings are equal. It looks at every byte, wherever the first difference is.
 fn same_all(a: &[u8], b: &[u8]) -> bool
     ensures { λ r. ⌜ r ≡ sameBytes (now (a .entry)) (now (b .entry)) ⌝ }
@@ -228,6 +313,17 @@ fn clamp(n: usize) -> usize
     if n < 9 { n } else { 9 }
 }
 
+// Whether a trimmed text, ungrouped, is the first n bytes of the code.
+fn is_code(code: [u8; 9], n: usize, s: &[u8]) -> bool
+    ensures { λ r. ⌜ r ≡ sameBytes (ungrouped (now (s .entry))) (take n code) ⌝ }
+{
+    let k = clamp(n);
+    let g = ungroup(s);
+    let bytes = g.bytes;
+    let len = g.len;
+    same_all(&bytes[..len], &code[..k])
+}
+
 // Whether s is UTF-8.
 pub fn is_text(s: &[u8]) -> bool
     ensures { λ r. ⌜ r ≡ isText (now (s .entry)) ⌝ }
@@ -239,14 +335,13 @@ pub fn is_text(s: &[u8]) -> bool
     }
 }
 
-// Whether s is text and, trimmed, the first n bytes of the code.
+// Whether s is text and, trimmed and ungrouped, the first n bytes of the code.
 pub fn is_right(code: [u8; 9], n: usize, s: &[u8]) -> bool
     ensures { λ r. ⌜ r ≡ right code n (now (s .entry)) ⌝ }
 {
-    let k = clamp(n);
     let t = trim(s);
     match t {
-        Trimmed::Text(a, e) => same_all(&s[a..e], &code[..k]),
+        Trimmed::Text(a, e) => is_code(code, n, &s[a..e]),
         Trimmed::NotText => false,
     }
 }

@@ -1,7 +1,7 @@
 // Reads byte strings on standard input, each a line of hexadecimal digits, and writes each with its verdict for the code
-// 1234: no text, wrong or right. Its input has the edges of RFC 3629's grammar and of White_Space. What a program reads and
-// writes is open to a contract: `print_verdict`, `case`, `cases` and `main` give nothing back, and the file `stdout` has what
-// they write.
+// 1234: no text, wrong or right. Its input has the edges of RFC 3629's grammar and of White_Space, and digits in groups. What a
+// program reads and writes is open to a contract: `print_verdict`, `case`, `cases` and `main` give nothing back, and the file
+// `stdout` has what they write.
 use hex::HexValue;
 use libc::STDIN_FILENO;
 use libc::STDOUT_FILENO;

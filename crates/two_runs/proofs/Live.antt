@@ -11,7 +11,7 @@ use Rattle.phones.specs.Ids.{contains, joined, someOf}
 use Rattle.phones.specs.Phones.{idBytes, idInRange, idOf, idsIn, listInRange, listOf, phonesOf, tooLong}
 use Rattle.draw.specs.Draw.{digits, drawLimit, drawn, firstBelow, group}
 use Rattle.text.specs.Utf8.{decode, encode, encodeAll}
-use Rattle.text.specs.Text.{isText, right, trim, trimFront, trimmed, white}
+use Rattle.text.specs.Text.{beginsDigit, isDigit, isDropped, isSeparator, isText, right, trim, trimFront, trimmed, ungrouped, ungroupedFrom, white}
 use Rattle.text.specs.Utf8 as Utf8
 use Rattle.state.specs.declared.Kind.the-variants.{CodeEntry}
 use Rattle.state.specs.declared.Status.{Status}
@@ -103,6 +103,10 @@ four = 49 ∷ 50 ∷ 51 ∷ 52 ∷ []
 abbrev seven : List ℕ
 seven = 48 ∷ 48 ∷ 48 ∷ 55 ∷ []
 
+-- 00-07
+abbrev seven-grouped : List ℕ
+seven-grouped = 48 ∷ 48 ∷ 45 ∷ 48 ∷ 55 ∷ []
+
 -- D2 04 00 00 and 07 00 00 00
 abbrev random-1234 : List ℕ
 random-1234 = 0xD2 ∷ 4 ∷ 0 ∷ 0 ∷ []
@@ -114,7 +118,7 @@ abbrev pub one-run : List Call
 one-run = start 1_000 random-1234 ∷ submit 2_000 seven ∷ submit 3_000 four ∷ []
 
 abbrev pub other-run : List Call
-other-run = start 1_000 random-0007 ∷ submit 2_000 four ∷ submit 3_000 seven ∷ []
+other-run = start 1_000 random-0007 ∷ submit 2_000 four ∷ submit 3_000 seven-grouped ∷ []
 
 -- what a session of the cases' gate shows
 abbrev shows : Status → ℕ → ℕ → SessionReply
@@ -147,12 +151,12 @@ pub record Examples : Type 0 where
   pub tallied : sessions 3 0 ready three ≡ tallies
 
 pub examples : Examples
-unfolding padded sameBytes contains idBytes idInRange idOf idsIn joined listInRange listOf phonesOf someOf tooLong digits drawLimit drawn firstBelow group decode encode encodeAll Utf8.within isText right trim trimFront trimmed white Range.within Range.settingsFit Range.allOf Range.printable Range.methodFits Range.allFit Range.methodsIn Range.methodsFit Running.methodAt Running.cleanMethod Running.inProgress Running.codeInProgress Range.triesFit Range.sessionFits Range.windowFits Range.coreFits Range.inRange View.view Replies.reply Replies.notified Replies.finish Policy.fingerprintConfirmed Policy.isIdentified Store.isFull Times.saturatingAdd Times.secondsTo Session.secondsOf Session.replyOf Session.endedAs Session.triedOnce Session.isOf Session.lostReadWrite Session.noteAt Session.cannotGoOn Session.lapseOf Session.placeFrom Session.placeOf checked Validation.endSession Validation.runsFor Validation.startChecks Validation.newSession Validation.begin Validation.startAt Validation.start Validation.succeededCore Validation.succeed Validation.failedCore Validation.triedCore Validation.wrong Validation.rightCode Validation.judge Validation.submitted Validation.submit New.newMethods New.newCore Gate.saying Gate.served Gate.says Gate.left Gate.gives Gate.step begins judgedWrong blanked hideGate codeRuns
+unfolding padded sameBytes contains idBytes idInRange idOf idsIn joined listInRange listOf phonesOf someOf tooLong digits drawLimit drawn firstBelow group decode encode encodeAll Utf8.within isDigit isSeparator beginsDigit isDropped ungroupedFrom ungrouped isText right trim trimFront trimmed white Range.within Range.settingsFit Range.allOf Range.printable Range.methodFits Range.allFit Range.methodsIn Range.methodsFit Running.methodAt Running.cleanMethod Running.inProgress Running.codeInProgress Range.triesFit Range.sessionFits Range.windowFits Range.coreFits Range.inRange View.view Replies.reply Replies.notified Replies.finish Policy.fingerprintConfirmed Policy.isIdentified Store.isFull Times.saturatingAdd Times.secondsTo Session.secondsOf Session.replyOf Session.endedAs Session.triedOnce Session.isOf Session.lostReadWrite Session.noteAt Session.cannotGoOn Session.lapseOf Session.placeFrom Session.placeOf checked Validation.endSession Validation.runsFor Validation.startChecks Validation.newSession Validation.begin Validation.startAt Validation.start Validation.succeededCore Validation.succeed Validation.failedCore Validation.triedCore Validation.wrong Validation.rightCode Validation.judge Validation.submitted Validation.submit New.newMethods New.newCore Gate.saying Gate.served Gate.says Gate.left Gate.gives Gate.step begins judgedWrong blanked hideGate codeRuns
 examples = record {
   two =
       next (starts phone method 1_000 random-1234 random-0007 (λ d. (refl, refl)))
       (next (submits phone 2_000 seven four (λ f. refl) (λ x j. refl))
-      (next (submits phone 3_000 four seven (λ f. refl) (λ x j. refl)) end));
+      (next (submits phone 3_000 four seven-grouped (λ f. refl) (λ x j. refl)) end));
   oneCode = refl;
   otherCode = refl;
   oneAnswers = refl;

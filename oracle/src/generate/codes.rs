@@ -30,6 +30,14 @@ const NOT_TEXT: [&[u8]; 9] = [
     &[0xF0, 0x9F, 0x98],
 ];
 
+/// What is dropped between two digits, if it stands there alone.
+const SEPARATORS: [u8; 2] = [b' ', b'-'];
+
+/// Blanks, dashes and other marks that stay between two digits.
+const NOT_SEPARATORS: [u32; 16] = [
+    9, 10, 13, 43, 44, 46, 47, 95, 160, 173, 8195, 8208, 8209, 8211, 8722, 12288,
+];
+
 fn text(point: u32) -> Bytes {
     let c = char::from_u32(point).expect("a code point of text");
     c.to_string().into_bytes()
@@ -94,11 +102,66 @@ impl Generator {
         while self.random.chance(1, 3) {
             typed.extend(text(self.random.pick(&WHITE_SPACE)));
         }
-        typed.extend(code);
+        let grouped = self.grouped(&code);
+        typed.extend(self.random.pick(&[code, grouped]));
         while self.random.chance(1, 3) {
             typed.extend(text(self.random.pick(&WHITE_SPACE)));
         }
         typed
+    }
+
+    /// The digits with a blank or a hyphen in one gap, in every gap or in some.
+    fn grouped(&mut self, digits: &[u8]) -> Bytes {
+        let one = self.random.below(digits.len() as u64) as usize;
+        let gaps = self.random.below(3);
+        let separators = self.random.pick(&[*b"  ", *b"--", SEPARATORS]);
+        let mut typed = Bytes::new();
+        for (at, digit) in digits.iter().enumerate() {
+            let here = match gaps {
+                0 => at == one,
+                1 => true,
+                _ => self.random.flip(),
+            };
+            if at > 0 && here {
+                typed.push(self.random.pick(&separators));
+            }
+            typed.push(*digit);
+        }
+        typed
+    }
+
+    /// The digits with something in a gap or at an end that stays.
+    fn badly_grouped(&mut self, digits: &[u8]) -> Bytes {
+        let gap = self.random.below(digits.len() as u64) as usize;
+        if gap == 0 {
+            return self.with_hyphen_at_end(digits);
+        }
+        let separator = self.random.pick(&SEPARATORS);
+        let mark = text(self.random.pick(&NOT_SEPARATORS));
+        let between = match self.random.below(5) {
+            0 => vec![separator, self.random.pick(&SEPARATORS)],
+            1 => vec![separator, separator, self.random.pick(&SEPARATORS)],
+            2 => [&mark[..], &[separator]].concat(),
+            _ => mark,
+        };
+        let (front, back) = digits.split_at(gap);
+        let front = [front.to_vec(), self.grouped(front)];
+        let back = [back.to_vec(), self.grouped(back)];
+        [self.random.pick(&front), between, self.random.pick(&back)].concat()
+    }
+
+    /// A hyphen before or behind the digits, also beside a blank, which is trimmed or not.
+    fn with_hyphen_at_end(&mut self, digits: &[u8]) -> Bytes {
+        let hyphen: &[u8] = self
+            .random
+            .pick(&[&b"-"[..], b"-", b"-", b" -", b"- ", b"--"]);
+        let digits = [digits.to_vec(), self.grouped(digits)];
+        let digits = self.random.pick(&digits);
+        if self.random.flip() {
+            [hyphen, &digits].concat()
+        } else {
+            [&digits, hyphen].concat()
+        }
     }
 
     /// A text that is not the running code.
@@ -107,8 +170,8 @@ impl Generator {
         let at = self.random.below(code.len() as u64) as usize;
         let mut other = code.clone();
         other[at] = b'0' + (other[at] - b'0' + 1 + self.random.below(9) as u8) % 10;
-        let mut inside = code.clone();
-        inside.insert(at, b' ');
+        let other_grouped = self.grouped(&other);
+        let badly_grouped = self.badly_grouped(&code);
         let mut longer = code.clone();
         longer.push(b'0');
         let mut padded = text(self.random.pick(&NOT_WHITE_SPACE));
@@ -121,17 +184,18 @@ impl Generator {
         let mut wide = code[..at].to_vec();
         wide.extend(text(0xFF10 + u32::from(code[at] - b'0')));
         wide.extend(&code[at + 1..]);
-        let inner = if at == 0 { longer.clone() } else { inside };
         self.random.pick(&[
             other.clone(),
-            other.clone(),
             other,
-            inner,
+            other_grouped,
+            badly_grouped.clone(),
+            badly_grouped,
             code[1..].to_vec(),
             longer,
             padded,
             behind,
             blanks,
+            vec![b'-'],
             Bytes::new(),
             high,
             wide,

@@ -7,6 +7,7 @@ mod phones;
 mod probe;
 mod sessions;
 mod tries;
+mod typed;
 
 use crate::answer::{Reply, Signals};
 use crate::calls::Call;
@@ -46,6 +47,7 @@ pub fn all() -> Vec<Wrong> {
     [
         SLIPS,
         sessions::RULES,
+        typed::RULES,
         tries::RULES,
         drawing::RULES,
         phones::RULES,
@@ -80,7 +82,7 @@ const SLIPS: &[Wrong] = &[
     wrong(
         "ascii-trim",
         "only ASCII blanks are trimmed",
-        tries::ascii_trim,
+        typed::ascii_trim,
     ),
 ];
 

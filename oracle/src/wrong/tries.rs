@@ -1,25 +1,14 @@
-//! Wrong rules about typed codes: trimming, tries, cooldown, full lists.
+//! Wrong rules about what a typed code leads to: tries, cooldown, full lists.
 
 use super::{Wrong, reply, run, wrong};
 use crate::answer::{Answer, Refusal, Reply};
 use crate::calls::Call;
 use crate::gate::{Gate, refused};
+use core_interface::MAX_CODE_ATTEMPTS;
 use core_interface::oracle::{phone_trust, validation};
 use core_interface::proto::PhoneValidationStatus::{Failed, InProgress, Succeeded};
-use core_interface::{CODE_LENGTH, MAX_CODE_ATTEMPTS};
 
 pub const RULES: &[Wrong] = &[
-    wrong(
-        "no-trim",
-        "blanks around a typed code make it wrong",
-        no_trim,
-    ),
-    wrong(
-        "trim-inside",
-        "blanks inside a typed code are dropped",
-        trim_inside,
-    )
-    .same_if(CODE_LENGTH == 1),
     wrong(
         "cooldown-not-set",
         "the last try starts no cooldown",
@@ -36,11 +25,6 @@ pub const RULES: &[Wrong] = &[
         success_refills,
     )
     .same_if(MAX_CODE_ATTEMPTS == 1),
-    wrong(
-        "not-text-ticks",
-        "a text that is none ticks",
-        not_text_ticks,
-    ),
     wrong(
         "no-session-silent",
         "a submit without a session raises no signal",
@@ -73,46 +57,6 @@ pub const RULES: &[Wrong] = &[
         success_listed_silent,
     ),
 ];
-
-/// Submits another text in place of the typed one.
-fn submit_as(gate: &mut Gate, call: &Call, change: fn(&str) -> Option<String>) -> Reply {
-    if let Call::Submit { phone, code, now } = call
-        && let Ok(text) = std::str::from_utf8(code)
-        && let Some(text) = change(text)
-    {
-        let changed = Call::Submit {
-            phone: phone.clone(),
-            code: text.into_bytes(),
-            now: *now,
-        };
-        return run(gate, &changed);
-    }
-    run(gate, call)
-}
-
-/// A text that is never right.
-fn never_right() -> Option<String> {
-    Some("x".to_string())
-}
-
-pub fn ascii_trim(gate: &mut Gate, call: &Call) -> Reply {
-    submit_as(gate, call, |text| {
-        let trimmed = text.trim_matches(|c: char| c.is_ascii() && c.is_whitespace());
-        (trimmed != text.trim()).then(never_right)?
-    })
-}
-
-fn no_trim(gate: &mut Gate, call: &Call) -> Reply {
-    submit_as(gate, call, |text| {
-        (text.trim() != text).then(never_right)?
-    })
-}
-
-fn trim_inside(gate: &mut Gate, call: &Call) -> Reply {
-    submit_as(gate, call, |text| {
-        Some(text.chars().filter(|c| !c.is_whitespace()).collect())
-    })
-}
 
 pub fn refill_tries(gate: &mut Gate, call: &Call) -> Reply {
     let mut reply = run(gate, call);
@@ -163,15 +107,6 @@ fn success_refills(gate: &mut Gate, call: &Call) -> Reply {
         shown.tries = MAX_CODE_ATTEMPTS;
     }
     reply
-}
-
-fn not_text_ticks(gate: &mut Gate, call: &Call) -> Reply {
-    if let Call::Submit { code, now, .. } = call
-        && std::str::from_utf8(code).is_err()
-    {
-        core_interface::tick_validation(*now);
-    }
-    run(gate, call)
 }
 
 fn no_session_silent(gate: &mut Gate, call: &Call) -> Reply {
