@@ -51,7 +51,10 @@ impl Gate {
                 embassy_time::set_clock_ms(*now);
                 allow(*bus, (*frame_bus, *kind, *id, *dlc, *data), class)
             }
-            Call::Heard { bus, now } => heard(*bus, *now),
+            Call::Heard { bus, now } => {
+                self.marks.hear(*bus, *now);
+                heard(*bus, *now)
+            }
             Call::NotePlatform { number } => {
                 core_interface::init(*number);
                 plain(Answer::Ok)

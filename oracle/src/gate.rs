@@ -3,6 +3,7 @@
 use crate::answer::{Answer, Refusal, Reply, Signals, Values};
 use crate::calls::Call;
 use crate::host::{self, Settings};
+use crate::marks::Marks;
 use core_interface::ProbeWindow;
 use core_interface::oracle::{can_probe, validation};
 use std::future::Future;
@@ -15,6 +16,7 @@ pub struct Gate {
     pub settings: Settings,
     /// The source hands the window out and closes it when this is dropped.
     pub(crate) window: Option<ProbeWindow>,
+    pub(crate) marks: Marks,
 }
 
 /// What a call gives but for its signals.
@@ -50,6 +52,7 @@ impl Gate {
         let mut gate = Self {
             settings: Settings::least(),
             window: None,
+            marks: Marks::default(),
         };
         gate.make_new(Settings::least());
         gate
@@ -143,6 +146,7 @@ impl Gate {
         oracle::pairing::set_paired(Vec::new());
         oracle::pairing::set_bonded_limit(settings.bonded as u8);
         host::declare_methods(&settings.methods);
+        self.marks = Marks::default();
         self.settings = settings;
     }
 }

@@ -1,8 +1,9 @@
 //! The oracle: the access gate's Rust source, run call by call from a script.
 //!
 //! `items` and `calls` read and write scripts (docs/REPLAY.md), `gate` runs a call on the source, `added` holds what
-//! documents 01 and 02 add around it (ADDED.md), `queries` the calls that change nothing, `answer` what is printed, `state`
-//! the dump of the source's statics, `wrong` deliberate mistakes for testing the comparison itself.
+//! documents 01 and 02 add around it (ADDED.md), `marks` when each bus was heard, `queries` the calls that change nothing,
+//! `answer` what is printed, `state` the dump of the source's statics, `wrong` deliberate mistakes for testing the
+//! comparison itself.
 
 pub mod added;
 pub mod answer;
@@ -12,6 +13,7 @@ pub mod generate;
 pub mod hex;
 pub mod host;
 pub mod items;
+pub mod marks;
 pub mod queries;
 pub mod replay;
 pub mod state;

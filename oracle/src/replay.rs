@@ -27,17 +27,38 @@ impl From<io::Error> for Stopped {
 /// The most bytes of a line.
 const LONGEST_LINE: usize = 16_384;
 
+/// From a comment that begins so up to the next `new` the source is not run.
+const NOT_THE_SOURCE: &[u8] = b"# not the source:";
+
+/// There a comment that begins so stands behind each call and has what the call gives, written by hand.
+const GIVES: &[u8] = b"#: ";
+
 pub fn replay(script: impl BufRead, mut out: impl Write, options: &Options) -> Result<(), Stopped> {
     let mut gate = Gate::least();
+    let mut passes_over = false;
+    let mut awaits: Option<(usize, &'static str)> = None;
     // A line ends with byte 10 alone, and the last one also with the script.
     for (at, line) in script.split(b'\n').enumerate() {
         let number = at + 1;
-        match read(&line?) {
+        let line = line?;
+        if let Some((number, name)) = awaits.take() {
+            write_given(&mut out, number, name, &line)?;
+            continue;
+        }
+        passes_over |= line.starts_with(NOT_THE_SOURCE);
+        match read(&line) {
             Ok(None) => {}
             Err(error) => writeln!(out, "line={number} error={}", error.name())?,
+            Ok(Some(call)) if passes_over && !matches!(call, Call::New { .. }) => {
+                awaits = Some((number, call.name()));
+            }
             Ok(Some(Call::State {})) => print_state(&mut out, number, &gate)?,
             Ok(Some(call)) => {
+                passes_over = false;
                 check_supported(&call, number)?;
+                if options.wrong.is_none() {
+                    check_awake(&gate, &call, number)?;
+                }
                 let reply = wrong::perform(&mut gate, &call, options.wrong);
                 writeln!(out, "line={number} call={} {reply}", call.name())?;
                 if options.states {
@@ -46,7 +67,28 @@ pub fn replay(script: impl BufRead, mut out: impl Write, options: &Options) -> R
             }
         }
     }
+    if let Some((number, name)) = awaits {
+        write_given(&mut out, number, name, b"")?;
+    }
     out.flush()?;
+    Ok(())
+}
+
+/// What the line behind a call says that it gives, where the source is not run.
+fn write_given(
+    out: &mut impl Write,
+    number: usize,
+    name: &str,
+    line: &[u8],
+) -> Result<(), Stopped> {
+    let Some(given) = line.strip_prefix(GIVES) else {
+        return Err(Stopped::Unsupported(format!(
+            "line {number}: the source is not run here, and the next line does not say what the call gives"
+        )));
+    };
+    write!(out, "line={number} call={name} ")?;
+    out.write_all(given)?;
+    writeln!(out)?;
     Ok(())
 }
 
@@ -69,6 +111,18 @@ fn check_supported(call: &Call, number: usize) -> Result<(), Stopped> {
         Some(settings) if settings.in_range() && !settings.match_build() => {
             Err(Stopped::Unsupported(format!(
                 "line {number}: unsupported settings, the source was compiled with others"
+            )))
+        }
+        _ => Ok(()),
+    }
+}
+
+/// An opening at which the source's rule and W-201's agree.
+fn check_awake(gate: &Gate, call: &Call, number: usize) -> Result<(), Stopped> {
+    match call {
+        Call::OpenProbe { bus, now, .. } if gate.marks.rules_differ(*bus, *now) => {
+            Err(Stopped::Unsupported(format!(
+                "line {number}: the source's rule for an awake bus is not that of W-201 at this moment"
             )))
         }
         _ => Ok(()),

@@ -11,14 +11,26 @@ use core_interface::oracle::{can, can_access, can_probe, pairing, phone_trust, v
 use core_interface::{CarDigest, ValidationMethod};
 use embedded_can::Id;
 
-/// Everything but the settings.
+/// Everything but the settings, as the source has it.
 pub fn show_statics() -> String {
-    [show_access(), show_phones(), show_session(), show_probe()].join(" ")
+    let marks = can_probe::marks().map(|mark| mark.to_string());
+    show_all(&marks.join(","))
+}
+
+fn show_all(marks: &str) -> String {
+    let parts = [
+        show_access(),
+        show_phones(),
+        show_session(),
+        show_probe(marks),
+    ];
+    parts.join(" ")
 }
 
 impl Gate {
+    /// The state line; its marks are W-201's.
     pub fn show_state(&self) -> String {
-        format!("{} {}", self.show_settings(), show_statics())
+        format!("{} {}", self.show_settings(), show_all(&self.marks.show()))
     }
 
     fn show_settings(&self) -> String {
@@ -129,17 +141,15 @@ fn place(method: &'static ValidationMethod) -> usize {
         .expect("a session's method is declared")
 }
 
-fn show_probe() -> String {
+fn show_probe(marks: &str) -> String {
     let window = match can_probe::window() {
         Some(window) => show_window(&window),
         None => "window=none".to_string(),
     };
-    let marks = can_probe::marks().map(|mark| mark.to_string());
     format!(
-        "{window} attempts={} relocks={} marks={}",
+        "{window} attempts={} relocks={} marks={marks}",
         can_probe::attempts(),
-        can_probe::relocks(),
-        marks.join(",")
+        can_probe::relocks()
     )
 }
 

@@ -24,8 +24,8 @@ fn lines_are_read_back() {
         texts: true,
         ..options
     };
-    let lines = script(3, 20_000, options);
-    let others = script(3, 20_000, with_texts);
+    let lines = script(3, 20_000, options).lines;
+    let others = script(3, 20_000, with_texts).lines;
     assert_ne!(lines, others);
     assert_eq!(lines.len(), others.len());
     for (line, other) in lines.iter().zip(&others) {

@@ -18,7 +18,7 @@ fn new_gates_have_the_starting_statics() {
         texts: false,
     };
     let mut news = 0;
-    let lines = script(7, 5_000, options);
+    let lines = script(7, 5_000, options).lines;
     for line in &lines {
         let call = parse(line).expect("a call").expect("no comment");
         if call.name() == "state" {

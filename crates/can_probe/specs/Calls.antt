@@ -3,7 +3,7 @@ use mathlib.Core.Bool.{Bool, cond, not, _&&_}
 use mathlib.Core.List.{List, [], _∷_}
 use Prim.Native.Nat.{ℕ, _+_}
 use lib.Dec.{leb}
-use lib.ListN.{set, take}
+use lib.ListN.{take}
 use Rattle.frames.specs.declared.ProbeFrame.{ProbeFrame}
 use Rattle.frames.specs.Frames.{busExists}
 use Rattle.state.specs.declared.Policy.{Policy}
@@ -12,12 +12,12 @@ use Rattle.state.specs.declared.Core.{Core}
 use Rattle.state.specs.declared.Answer.{Answer}
 use Rattle.state.specs.declared.Answer.the-variants.{Done, Yes, No, Invalid, NotNeeded, Logging, BusAsleep, Busy, NoAttemptsLeft}
 use Rattle.state.specs.declared.Said.{Said}
-use Rattle.state.specs.Parts.{withProbe, withWindow, withAttempts, withMarks}
+use Rattle.state.specs.Parts.{withProbe, withWindow, withAttempts}
 use Rattle.range.specs.Range.{within}
 use Rattle.state.specs.Replies.{readOnlyChanged, leave, quiet, reply}
 use Rattle.state.specs.Checks.{_refuses_, checked}
 use Rattle.policy.specs.Policy.{isReadOnly, isFdBus}
-use Rattle.probe_window.specs.Window.{markOf, isBusAwake, probeNeeded, idsInRange, noWindow, newWindow}
+use Rattle.probe_window.specs.Window.{isBusAwake, heardAt, probeNeeded, idsInRange, noWindow, newWindow}
 
 -- ---- open and close
 
@@ -37,7 +37,7 @@ openProbe c bus frames count clock =
     ((not (isValidProbe (c .policy) bus frames count) refuses Invalid) ∷  -- 17
     (not (probeNeeded (c .policy .identity)) refuses NotNeeded) ∷  -- 12
     (c .policy .buses .logging refuses Logging) ∷  -- 13
-    (not (isBusAwake (c .probe .marks) bus clock) refuses BusAsleep) ∷  -- 14
+    (not (isBusAwake (c .probe .heard) (c .probe .marks) bus clock) refuses BusAsleep) ∷  -- 14
     (c .probe .window .present refuses Busy) ∷  -- 15
     (leb 5 (c .probe .attempts) refuses NoAttemptsLeft) ∷ [])  -- 16
     (windowChanged c Done
@@ -53,5 +53,5 @@ closeProbe c = cond (c .probe .window .present) (windowChanged c Yes (withWindow
 unfoldable pub heard : Core → ℕ → ℕ → Said
 heard c bus clock =
     cond (busExists bus)
-    (quiet (withProbe c (withMarks (c .probe) (set (c .probe .marks) bus (markOf clock)))) Done)
+    (quiet (withProbe c (heardAt (c .probe) bus clock)) Done)
     (leave c Done)

@@ -54,8 +54,9 @@ pub fn open_identity_probe(
                 return state::replies::leave(core, Answer::Logging);
             }
             let mut b = core.probe;
+            let heard = b.heard;
             let marks = b.marks;
-            if probe_window::is_bus_awake(marks, bus, clock) {
+            if probe_window::is_bus_awake(heard, marks, bus, clock) {
                 if b.window.present {
                     return state::replies::leave(core, Answer::Busy);
                 }
@@ -91,11 +92,8 @@ pub fn heard_can_frame(core: Core, bus: u8, clock: u64) -> Said
     ensures { λ r. ⌜ r ≡ heard core bus clock ⌝ }
 {
     if frames::bus_exists(bus) {
-        let mut b = core.probe;
-        let old = b.marks;
-        let mark = probe_window::mark_of(clock);
-        let marks = probe_window::with_mark(old, bus, mark);
-        b.marks = marks;
+        let old = core.probe;
+        let b = probe_window::heard_at(old, bus, clock);
         let c = state::parts::with_probe(core, b);
         return state::replies::quiet(c, Answer::Done);
     }

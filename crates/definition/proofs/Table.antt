@@ -94,7 +94,7 @@ unfolding roomFor pushed Store.recordFor Store.restore Store.isFull Store.isOfCa
 openPhones = tt
 
 unfoldable openProbe1 : Unit {0}
-unfolding Window.markOf Window.sinceMark Window.isAwake Window.isBusAwake Window.probeNeeded Window.isWithinTime Window.isOpen
+unfolding Window.isAwake Window.isBusAwake Window.heardAt Window.probeNeeded Window.isWithinTime Window.isOpen
 openProbe1 = tt
 
 unfoldable openProbe2 : Unit {0}

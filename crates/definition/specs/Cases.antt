@@ -5,7 +5,7 @@ use mathlib.Core.Bool.{Bool, true, false}
 use mathlib.Core.List.{List, [], _∷_, _++_, map}
 use Prim.Native.Nat.{ℕ}
 use Prim.Native.String.{String}
-use lib.ListN.{getD, replicate}
+use lib.ListN.{replicate}
 use Rattle.arrays.specs.Arrays.{padded}
 use Rattle.phones.specs.declared.PhoneList.{PhoneList}
 use Rattle.phones.specs.Phones.{idOf}
@@ -23,6 +23,7 @@ use Rattle.state.specs.declared.Status.the-variants.{InProgress, Succeeded, Fai
 use Rattle.state.specs.declared.Method.{Method}
 use Rattle.state.specs.declared.Settings.{Settings}
 use Rattle.state.specs.declared.Gate.{Gate}
+use Rattle.state.specs.declared.Probe.{Probe}
 use Rattle.state.specs.declared.Answer.the-variants.{Done}
 use Rattle.state.specs.Answers.{Numbered, Values, noValue, done, yes, no, seconds, session}
 use Rattle.state.specs.Parts.{withPolicy}
@@ -38,7 +39,6 @@ pub data Observed : Type 0 where
   draw : Drawn → Observed  -- what random bytes draw: whether there is a code, and its nine places
   code : List ℕ → Observed  -- the nine places of the gate's code
   answer : Numbered → Observed  -- a call's answer
-  mark : ℕ → Observed  -- the receive mark of a bus
   truth : Bool → Observed  -- a definition that is no call: a bus is awake, a window is open
   reply : Reply PhoneList → Observed  -- the whole reply to a query
   printed : List ℕ → Observed  -- the bytes that the listing program prints
@@ -177,25 +177,26 @@ abbrev pub sendEntry : ℕ → Call
 sendEntry clock = onCore (allowCanTx 0 (record { bus = 0; id = entry .id; «data» = entry .data; dlc = 8 }) Platform [] clock)
 
 -- whether the bus is awake; an opening on one that is asleep is refused by 14
+abbrev pub awakeBy : Probe → ℕ → Observed
+awakeBy b clock = truth (isBusAwake (b .heard) (b .marks) 0 clock)
+
 abbrev pub awake : List Call → ℕ → Observed
-awake cs clock = truth (isBusAwake (afterAll platform cs .core .probe .marks) 0 clock)
+awake cs clock = awakeBy (afterAll platform cs .core .probe) clock
 
--- the mark of the first time is not 0, and by it the bus is awake at the second
-abbrev pub heardTwice : List Call
-heardTwice = heard 4_294_967_294 ∷ heard 4_294_967_295 ∷ []
-
--- P8 bus heard at 0: awake at 1,000, asleep at 1,001. P9 heard at 4,294,967,295: the mark is 0, asleep.
+-- P8 bus heard at 0: awake at 1,000, asleep at 1,001. P9, in the words of W-201: heard at 4,294,967,295 and asked at that ms, awake. And
+-- W-201: a bus that fell silent 2^32 ms ago is asleep, and so is one that was never heard.
 abbrev pub p8-p9 : List Row
 p8-p9 =
     (awake (heard 0 ∷ []) 1_000 gives truth true) ∷
     (answerAfter platform (heard 0 ∷ []) (openProbe 1_000) gives says done) ∷
     (awake (heard 0 ∷ []) 1_001 gives truth false) ∷
     (answerAfter platform (heard 0 ∷ []) (openProbe 1_001) gives refused 14 noValue) ∷
-    (mark (getD (afterAll platform (heard 4_294_967_294 ∷ []) .core .probe .marks) 0 0) gives mark 4_294_967_295) ∷
-    (awake (heard 4_294_967_294 ∷ []) 4_294_967_295 gives truth true) ∷
-    (mark (getD (afterAll platform heardTwice .core .probe .marks) 0 0) gives mark 0) ∷
-    (awake heardTwice 4_294_967_295 gives truth false) ∷
-    (answerAfter platform heardTwice (openProbe 4_294_967_295) gives refused 14 noValue) ∷ []
+    (awake (heard 4_294_967_295 ∷ []) 4_294_967_295 gives truth true) ∷
+    (answerAfter platform (heard 4_294_967_295 ∷ []) (openProbe 4_294_967_295) gives says done) ∷
+    (awake (heard 0 ∷ []) 4_294_967_296 gives truth false) ∷
+    (answerAfter platform (heard 0 ∷ []) (openProbe 4_294_967_296) gives refused 14 noValue) ∷
+    (awake [] 0 gives truth false) ∷
+    (answerAfter platform [] (openProbe 0) gives refused 14 noValue) ∷ []
 
 abbrev pub opened : List Call
 opened = heard 100 ∷ openProbe 100 ∷ []

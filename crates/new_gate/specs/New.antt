@@ -35,7 +35,7 @@ newPolicy = record {
 }
 
 abbrev pub newProbe : Probe
-newProbe = record { window = noWindow; attempts = 0; relocks = 0; marks = replicate 4 0 }
+newProbe = record { window = noWindow; attempts = 0; relocks = 0; heard = replicate 4 false; marks = replicate 4 0 }
 
 -- the methods in use, with zeros past the length of each id, and none past them; each may start and go on
 unfoldable pub newMethods : List Method → ℕ → Methods

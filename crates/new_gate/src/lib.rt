@@ -76,11 +76,13 @@ fn new_probe() -> Probe
     ensures { λ r. ⌜ r ≡ newProbe ⌝ }
 {
     let window = probe_window::no_window();
-    let marks = [0u32; 4];
+    let heard = [false; 4];
+    let marks = [0u64; 4];
     Probe {
         window,
         attempts: 0,
         relocks: 0,
+        heard,
         marks,
     }
 }

@@ -1,8 +1,8 @@
--- Steps of the loops over the frames of a probe, and the arithmetic of the marks.
+-- Steps of the loops over the frames of a probe.
 use mathlib.Core.Path.{_≡_, sym, _∙_}
 use mathlib.Core.Bool.{Bool, true, false, cond, not, _&&_}
 use mathlib.Core.List.{List}
-use Prim.Native.Nat.{ℕ, _+_, _-_, _%_, _^_, _≤_, _<_}
+use Prim.Native.Nat.{ℕ, _+_, _≤_, _<_}
 use native.Mathlib.Numerals.{add-one}
 use native.Mathlib.Omega.{arith}
 use lib.ListN.{length, take, drop, getD, length-take, drop-of-length-le}
@@ -12,10 +12,6 @@ use Rattle.frames.specs.declared.ProbeFrame.{ProbeFrame}
 use Rattle.frames.specs.Frames.{canIdInRange, isEntry}
 use Rattle.probe_window.specs.declared.Unsent.the-variants.{At, Nothing}
 use Rattle.probe_window.specs.Window.{idsInRange, firstUnsent}
-
--- the number that `mark` added to wraps back to m
-pub wraps-back : (m mark r : ℕ) → mark < 2 ^ 32 → r < 2 ^ 32 → (r + mark) % 2 ^ 32 ≡ m → r ≡ (m + 2 ^ 32 - mark) % 2 ^ 32
-wraps-back m mark r h k e = omega arith
 
 -- ---- the ids: what is left to test is what stands from i on
 

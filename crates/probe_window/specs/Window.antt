@@ -1,7 +1,7 @@
 -- The receive marks and the probe window (can_probe.rs).
 use mathlib.Core.Bool.{Bool, true, false, cond, not, _&&_, _||_}
 use mathlib.Core.List.{List, [], _∷_}
-use Prim.Native.Nat.{ℕ, suc, _+_, _-_, _%_, _^_}
+use Prim.Native.Nat.{ℕ, suc, _-_}
 use lib.Dec.{eqb, ltb, leb}
 use lib.ListN.{getD, replicate, take, set}
 use Rattle.arrays.specs.Arrays.{padded}
@@ -14,26 +14,23 @@ use Rattle.state.specs.declared.Identity.{Identity}
 use Rattle.state.specs.declared.Policy.{Policy}
 use Rattle.state.specs.declared.Probe.{Probe}
 use Rattle.state.specs.declared.Window.{Window}
+use Rattle.state.specs.Parts.{withMarks}
 use Rattle.policy.specs.Policy.{fingerprintConfirmed, isBusReadOnly}
 use Rattle.probe_window.specs.declared.Unsent.{Unsent}
 use Rattle.probe_window.specs.declared.Unsent.the-variants.{At, Nothing}
 
 -- ---- receive marks
 
--- ms_plus_one: the clock's low 32 bits plus 1, wrapping; 0 reads as never
-unfoldable pub markOf : ℕ → ℕ
-markOf clock = (clock % 2 ^ 32 + 1) % 2 ^ 32
+-- is_bus_awake, by W-201: a frame was heard, not later than now, and at most 1,000 ms ago. P8 and P9 speak of it
+unfoldable pub isAwake : Bool → ℕ → ℕ → Bool
+isAwake heard mark clock = heard && leb mark clock && leb (clock - mark) 1_000
 
--- how long ago a mark was set, modulo 2^32
-unfoldable pub sinceMark : ℕ → ℕ → ℕ
-sinceMark mark clock = (markOf clock + 2 ^ 32 - mark) % 2 ^ 32
+unfoldable pub isBusAwake : List Bool → List ℕ → ℕ → ℕ → Bool
+isBusAwake heard marks bus clock = cond (busExists bus) (isAwake (getD heard bus false) (getD marks bus 0) clock) false
 
--- is_bus_awake: a frame was received at most 1,000 ms ago. P8 and P9 speak of it
-unfoldable pub isAwake : ℕ → ℕ → Bool
-isAwake mark clock = not (eqb mark 0) && leb (sinceMark mark clock) 1_000
-
-unfoldable pub isBusAwake : List ℕ → ℕ → ℕ → Bool
-isBusAwake marks bus clock = cond (busExists bus) (isAwake (getD marks bus 0) clock) false
+-- note_can_rx: the mark is the clock, whatever stood there
+unfoldable pub heardAt : Probe → ℕ → ℕ → Probe
+heardAt b bus clock = withMarks b (set (b .heard) bus true) (set (b .marks) bus clock)
 
 -- ---- the window
 

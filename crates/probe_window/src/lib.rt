@@ -8,11 +8,11 @@ use state::Probe;
 use state::Window;
 ghost use mathlib.Core.Path.{_≡_};
 ghost use mathlib.Core.Bool.{_&&_, not};
-ghost use lib.ListN.{set, take};
+ghost use lib.ListN.{take};
 ghost use Prim.Native.Nat.{min};
 ghost use Rattle.arrays.specs.Arrays.{padded};
 ghost use Rattle.frames.specs.Frames.{isEntry};
-ghost use Rattle.probe_window.specs.Window.{idsInRange, isAwake, isBusAwake, isListenOnly, isOpen, isWithinTime, markOf, markedSent, newWindow, noFrame, noWindow, probeNeeded, sinceMark, unsentIn};
+ghost use Rattle.probe_window.specs.Window.{heardAt, idsInRange, isAwake, isBusAwake, isListenOnly, isOpen, isWithinTime, markedSent, newWindow, noFrame, noWindow, probeNeeded, unsentIn};
 
 // The place of the first entry of a probe that is a given frame and was not sent yet.
 pub enum Unsent {
@@ -20,53 +20,42 @@ pub enum Unsent {
     Nothing,
 }
 
-// ms_plus_one.
-pub fn mark_of(clock: u64) -> u32
-    ensures { λ r. ⌜ r ≡ markOf clock ⌝ }
+// Whether a bus with this mark heard a frame at most 1,000 ms ago; a mark later than now is none.
+fn is_awake(heard: bool, mark: u64, clock: u64) -> bool
+    ensures { λ r. ⌜ r ≡ isAwake heard mark clock ⌝ }
 {
-    let low = (clock % 0x1_0000_0000) as u32;
-    std::num::wrapping_add_u32(low, 1)
-}
-
-fn since_mark(mark: u32, clock: u64) -> u32
-    ensures { λ r. ⌜ r ≡ sinceMark mark clock ⌝ }
-{
-    let m = mark_of(clock);
-    std::num::wrapping_sub_u32(m, mark)
-}
-
-// Whether a bus with this mark received a frame at most 1,000 ms ago.
-pub fn is_awake(mark: u32, clock: u64) -> bool
-    ensures { λ r. ⌜ r ≡ isAwake mark clock ⌝ }
-{
-    if mark == 0 {
-        return false;
-    }
-    since_mark(mark, clock) <= 1_000
-}
-
-pub fn is_bus_awake(marks: [u32; 4], bus: u8, clock: u64) -> bool
-    ensures { λ r. ⌜ r ≡ isBusAwake marks bus clock ⌝ }
-{
-    if frames::bus_exists(bus) {
-        let i = bus as usize;
-        let mark = marks[i];
-        return is_awake(mark, clock);
+    if heard {
+        if mark <= clock {
+            return clock - mark <= 1_000;
+        }
     }
     false
 }
 
-// The marks with that of a bus set; a bus above 3 has none.
-pub fn with_mark(marks: [u32; 4], bus: u8, mark: u32) -> [u32; 4]
-    ensures { λ r. ⌜ r ≡ set marks bus mark ⌝ }
+pub fn is_bus_awake(heard: [bool; 4], marks: [u64; 4], bus: u8, clock: u64) -> bool
+    ensures { λ r. ⌜ r ≡ isBusAwake heard marks bus clock ⌝ }
 {
-    let mut m = marks;
+    if frames::bus_exists(bus) {
+        let i = bus as usize;
+        let once = heard[i];
+        let mark = marks[i];
+        return is_awake(once, mark, clock);
+    }
+    false
+}
+
+// A frame is heard on a bus; one above 3 has no mark.
+pub fn heard_at(probe: Probe, bus: u8, clock: u64) -> Probe
+    ensures { λ r. ⌜ r ≡ heardAt probe bus clock ⌝ }
+{
+    let mut b = probe;
     if bus < 4 {
         let i = bus as usize;
-        m[i] = mark;
-        return m;
+        b.heard[i] = true;
+        b.marks[i] = clock;
+        return b;
     }
-    m
+    b
 }
 
 // The platform is confirmed and the car is not.

@@ -109,6 +109,7 @@ wordNames =
     ∷ "not_bonded"
     ∷ "bonded"
     ∷ "validated"
+    ∷ "never"
     ∷ []
 
 unfoldable pub keys : List (List ℕ)

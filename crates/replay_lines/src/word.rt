@@ -1,6 +1,6 @@
 // The words that are values of fields, a row to a line. The refusal of document 01's number n stands at place n + 3.
 
-pub const WORDS: [u8; 509] = *b"ok
+pub const WORDS: [u8; 515] = *b"ok
 yes
 no
 none
@@ -43,6 +43,7 @@ other_car
 not_bonded
 bonded
 validated
+never
 ";
 
 pub const NONE: usize = 3;
@@ -74,3 +75,5 @@ pub const NOT_BONDED: usize = 40;
 pub const BONDED: usize = 41;
 
 pub const VALIDATED: usize = 42;
+
+pub const NEVER: usize = 43;

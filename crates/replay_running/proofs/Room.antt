@@ -1,5 +1,5 @@
 -- The room that a running session and the probe take.
-use mathlib.Core.Bool.{false}
+use mathlib.Core.Bool.{Bool, true, false}
 use mathlib.Core.List.{List, [], _∷_, map}
 use Prim.Native.Nat.{ℕ, zero, suc, _+_, _*_, _^_, _≤_, _<_}
 use native.Mathlib.Nat.{le-of-eq}
@@ -9,7 +9,7 @@ use lib.ListN.{length, getD}
 use mir.Val.{Val}
 use denote.Array.{each}
 use denote.Shadow.{shadow}
-use denote.Struct.Field.{u32-field}
+use denote.Struct.Field.{u64-field}
 use borrow.Author.Needs.{needs}
 use Rattle.ascii.specs.Ascii.{ascii}
 use Rattle.frames.specs.declared.Id.{Id}
@@ -28,7 +28,7 @@ use Rattle.replay_lines.specs.Answer.{statusName}
 use Rattle.replay_lines.specs.Room.{Within}
 use Rattle.replay_lines.proofs.AnswerRoom.{Owned}
 use Rattle.replay_lines.proofs.Room.{_⊕_, upto, either, same, text-in, bytes-in, comma-in, item-in, word-in, digits-in, id-in, hexadecimal-in, status-in}
-use Rattle.replay_running.specs.Probe.{idText, frame, noFrame, frameAt, framesTo, sentAt, sentTo, window, marks, probe}
+use Rattle.replay_running.specs.Probe.{idText, frame, noFrame, frameAt, framesTo, sentAt, sentTo, window, mark, marks, probe}
 use Rattle.replay_running.specs.Session.{code, whose, stands, sessionOrNone}
 
 -- ---- the session
@@ -99,20 +99,24 @@ window-in w vs h =
     ⊕ item-in (ascii " opened_at=") (w .opened) (omega arith) ⊕ item-in (ascii " relocks_then=") (w .relocks) (omega arith) ⊕ text-in (ascii " sent=") ⊕ sent-in w 4)
     (upto 231 (lit≤ tt) (word-in (ascii " window=") (ascii "none") 4 (lit≤ tt)))
 
-each-mark : (l : List ℕ) (us : List Val) → shadow (each (u32-field .row .Denot) (u32-field .row .own) (map (u32-field .into) l) us) → (i : ℕ) → getD l i 0 < 2 ^ 64
+each-mark : (l : List ℕ) (us : List Val) → shadow (each (u64-field .row .Denot) (u64-field .row .own) (map (u64-field .into) l) us) → (i : ℕ) → getD l i 0 < 2 ^ 64
 each-mark [] us h i = lit< tt
 each-mark (n ∷ ns) [] h i = absurd h
 each-mark (n ∷ ns) (u ∷ us) h zero = omega arith
 each-mark (n ∷ ns) (u ∷ us) h (suc i) = each-mark ns us (h .1) i
 
-marks-in : (m : List ℕ) → ((i : ℕ) → getD m i 0 < 2 ^ 64) → Within 90 (marks m)
+mark-in : (key : List ℕ) (heard : Bool) (ms : ℕ) → ms < 2 ^ 64 → Within (length key + 20) (mark key heard ms)
+mark-in key true ms h = item-in key ms h
+mark-in key false ms h = upto (length key + 20) (omega arith) (word-in key (ascii "never") 5 (lit≤ tt))
+
+marks-in : (hs : List Bool) (m : List ℕ) → ((i : ℕ) → getD m i 0 < 2 ^ 64) → Within 90 (marks hs m)
 unfolding marks
-marks-in m h =
-    item-in (ascii " marks=") (getD m 0 0) (h 0) ⊕ item-in (ascii ",") (getD m 1 0) (h 1) ⊕ item-in (ascii ",") (getD m 2 0) (h 2)
-    ⊕ item-in (ascii ",") (getD m 3 0) (h 3)
+marks-in hs m h =
+    mark-in (ascii " marks=") (getD hs 0 false) (getD m 0 0) (h 0) ⊕ mark-in (ascii ",") (getD hs 1 false) (getD m 1 0) (h 1)
+    ⊕ mark-in (ascii ",") (getD hs 2 false) (getD m 2 0) (h 2) ⊕ mark-in (ascii ",") (getD hs 3 false) (getD m 3 0) (h 3)
 
 pub probe-in : (p : Probe) (vs : List Val) → Owned Probe.the-field p vs → Within 380 (probe p)
 unfolding probe
 probe-in p vs h =
     window-in (p .window) _ (h .1 .1 .0) ⊕ item-in (ascii " attempts=") (p .attempts) (omega arith) ⊕ item-in (ascii " relocks=") (p .relocks) (omega arith)
-    ⊕ marks-in (p .marks) (each-mark (p .marks) _ (h .1 .1 .1 .1 .1 .0 .1 .1))
+    ⊕ marks-in (p .heard) (p .marks) (each-mark (p .marks) _ (h .1 .1 .1 .1 .1 .1 .0 .1 .1))

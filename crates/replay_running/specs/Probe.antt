@@ -1,5 +1,5 @@
 -- How the probe of a gate is shown.
-use mathlib.Core.Bool.{false, cond}
+use mathlib.Core.Bool.{Bool, true, false, cond}
 use mathlib.Core.List.{List, []}
 use Prim.Native.Nat.{ℕ, zero, suc}
 use lib.Dec.{ltb}
@@ -49,8 +49,17 @@ window w p =
     ▸ item (ascii " opened_at=") (w .opened) ▸ item (ascii " relocks_then=") (w .relocks) ▸ text (ascii " sent=") ▸ sentTo w 4)
     (p ▸ word (ascii " window=") (ascii "none"))
 
-unfoldable pub marks : List ℕ → Page → Page
-marks m p = p ▸ item (ascii " marks=") (getD m 0 0) ▸ item (ascii ",") (getD m 1 0) ▸ item (ascii ",") (getD m 2 0) ▸ item (ascii ",") (getD m 3 0)
+-- when a frame was last heard on a bus, in ms
+abbrev pub mark : List ℕ → Bool → ℕ → Page → Page
+mark key true ms p = p ▸ item key ms
+mark key false ms p = p ▸ word key (ascii "never")
+
+unfoldable pub marks : List Bool → List ℕ → Page → Page
+marks hs ms p =
+    p ▸ mark (ascii " marks=") (getD hs 0 false) (getD ms 0 0)
+    ▸ mark (ascii ",") (getD hs 1 false) (getD ms 1 0)
+    ▸ mark (ascii ",") (getD hs 2 false) (getD ms 2 0)
+    ▸ mark (ascii ",") (getD hs 3 false) (getD ms 3 0)
 
 unfoldable pub probe : Probe → Page → Page
-probe b p = p ▸ window (b .window) ▸ item (ascii " attempts=") (b .attempts) ▸ item (ascii " relocks=") (b .relocks) ▸ marks (b .marks)
+probe b p = p ▸ window (b .window) ▸ item (ascii " attempts=") (b .attempts) ▸ item (ascii " relocks=") (b .relocks) ▸ marks (b .heard) (b .marks)

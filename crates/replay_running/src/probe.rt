@@ -7,9 +7,12 @@ use replay_lines::word;
 use state::Probe;
 use state::Window;
 ghost use mathlib.Core.Path.{_≡_};
+ghost use mathlib.Core.List.{[]};
 ghost use Prim.Native.Nat.{_<_};
+ghost use lib.ListN.{getD};
 ghost use Rattle.replay_lines.specs.Page.{page};
-ghost use Rattle.replay_running.specs.Probe.{idText, frame, frameAt, framesTo, sentAt, sentTo, window, marks, probe};
+ghost use Rattle.replay_lines.specs.Table.{keys};
+ghost use Rattle.replay_running.specs.Probe.{idText, frame, frameAt, framesTo, sentAt, sentTo, window, mark, marks, probe};
 
 // KIND/ID
 fn put_id(out: &mut [u8], at: usize, id: Id) -> usize
@@ -122,20 +125,23 @@ fn put_window(out: &mut [u8], at: usize, w: Window) -> usize
     replay_lines::fields::put_field(out, at, b"", Field::Word(key::WINDOW, word::NONE))
 }
 
-fn put_marks(out: &mut [u8], at: usize, m: [u32; 4]) -> usize
-    ensures { λ r. ⌜ page (now (out .exit)) r ≡ marks m (page (now (out .entry)) at) ⌝ }
+// When a frame was last heard on a bus.
+fn put_mark(out: &mut [u8], at: usize, key: usize, heard: bool, ms: u64) -> usize
+    ensures { λ r. ⌜ page (now (out .exit)) r ≡ mark (getD keys key []) heard ms (page (now (out .entry)) at) ⌝ }
 {
-    let fields = [
-        Field::Number(key::MARKS, m[0] as u64),
-        Field::Number(key::COMMA, m[1] as u64),
-        Field::Number(key::COMMA, m[2] as u64),
-        Field::Number(key::COMMA, m[3] as u64),
-        Field::Nothing,
-        Field::Nothing,
-        Field::Nothing,
-        Field::Nothing,
-    ];
-    replay_lines::fields::put_fields(out, at, b"", fields)
+    if heard {
+        return replay_lines::fields::put_field(out, at, b"", Field::Number(key, ms));
+    }
+    replay_lines::fields::put_field(out, at, b"", Field::Word(key, word::NEVER))
+}
+
+fn put_marks(out: &mut [u8], at: usize, heard: [bool; 4], ms: [u64; 4]) -> usize
+    ensures { λ r. ⌜ page (now (out .exit)) r ≡ marks heard ms (page (now (out .entry)) at) ⌝ }
+{
+    let k = put_mark(out, at, key::MARKS, heard[0], ms[0]);
+    let k = put_mark(out, k, key::COMMA, heard[1], ms[1]);
+    let k = put_mark(out, k, key::COMMA, heard[2], ms[2]);
+    put_mark(out, k, key::COMMA, heard[3], ms[3])
 }
 
 pub fn put_probe(out: &mut [u8], at: usize, p: Probe) -> usize
@@ -154,6 +160,7 @@ pub fn put_probe(out: &mut [u8], at: usize, p: Probe) -> usize
         Field::Nothing,
     ];
     let k = replay_lines::fields::put_fields(out, k, b"", fields);
-    let m = p.marks;
-    put_marks(out, k, m)
+    let heard = p.heard;
+    let marks = p.marks;
+    put_marks(out, k, heard, marks)
 }

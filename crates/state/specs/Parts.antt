@@ -1,4 +1,5 @@
 -- A core, a session's state or a probe with one part changed.
+use mathlib.Core.Bool.{Bool}
 use mathlib.Core.List.{List}
 use Prim.Native.Nat.{ℕ}
 use Rattle.phones.specs.declared.ShortId.{ShortId}
@@ -41,13 +42,13 @@ withNext v x = record { session = v .session; «cooldown_until» = v .«cooldown
 -- ---- a probe
 
 abbrev pub withWindow : Probe → Window → Probe
-withWindow b x = record { window = x; attempts = b .attempts; relocks = b .relocks; marks = b .marks }
+withWindow b x = record { window = x; attempts = b .attempts; relocks = b .relocks; heard = b .heard; marks = b .marks }
 
 abbrev pub withAttempts : Probe → ℕ → Probe
-withAttempts b x = record { window = b .window; attempts = x; relocks = b .relocks; marks = b .marks }
+withAttempts b x = record { window = b .window; attempts = x; relocks = b .relocks; heard = b .heard; marks = b .marks }
 
 abbrev pub withRelocks : Probe → ℕ → Probe
-withRelocks b x = record { window = b .window; attempts = b .attempts; relocks = x; marks = b .marks }
+withRelocks b x = record { window = b .window; attempts = b .attempts; relocks = x; heard = b .heard; marks = b .marks }
 
-abbrev pub withMarks : Probe → List ℕ → Probe
-withMarks b x = record { window = b .window; attempts = b .attempts; relocks = b .relocks; marks = x }
+abbrev pub withMarks : Probe → List Bool → List ℕ → Probe
+withMarks b hs ms = record { window = b .window; attempts = b .attempts; relocks = b .relocks; heard = hs; marks = ms }

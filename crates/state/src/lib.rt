@@ -120,12 +120,14 @@ pub struct Window {
     pub sent: [bool; 4],
 }
 
-// The statics of can_probe.rs: the window, ATTEMPTS, RELOCKS, LAST_RX_MS.
+// The statics of can_probe.rs: the window, ATTEMPTS, RELOCKS, LAST_RX_MS; of this, for each bus whether a frame was heard and when the
+// last one was (W-201).
 pub struct Probe {
     pub window: Window,
     pub attempts: u8,
     pub relocks: u32,
-    pub marks: [u32; 4],
+    pub heard: [bool; 4],
+    pub marks: [u64; 4],
 }
 
 // Everything but the lists and the digits. `peer` is the connected phone, none exactly if its length is 0.

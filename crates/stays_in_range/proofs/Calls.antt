@@ -42,7 +42,7 @@ use Rattle.validations.specs.Store.{storeOf, storing, forgetting, pruning, rest
 use Rattle.validations.specs.Store as Store
 use Rattle.probe_window.specs.declared.Unsent.{Unsent}
 use Rattle.probe_window.specs.declared.Unsent.the-variants.{At, Nothing}
-use Rattle.probe_window.specs.Window.{markedSent}
+use Rattle.probe_window.specs.Window.{markedSent, heardAt}
 use Rattle.can_probe.specs.Calls as Probe
 use Rattle.can_tx.specs.Tx as Tx
 use Rattle.session.specs.declared.Lapse.{Lapse}
@@ -246,7 +246,7 @@ module _ (v : View) (h : Fitting (v .core)) where
       search (b .settings, b .methods, b .count, b .validation, e, f)
 
   pub fit-said : (k : CoreCall) → Sized (onCore k) → Holds SaidFits (said (v .core) (v .lists) k)
-  unfolding said someOf leave quiet reply notified windowFits Pairing.setPeer CarIdentity.revokePlatform Changes.policyChanged Changes.relocked Probe.closeProbe Probe.windowChanged Probe.heard Can.setReadOnly Tx.allow Tx.allowPlatform Tx.throughWindow
+  unfolding said someOf leave quiet reply notified windowFits Pairing.setPeer CarIdentity.revokePlatform Changes.policyChanged Changes.relocked Probe.closeProbe Probe.windowChanged Probe.heard heardAt Can.setReadOnly Tx.allow Tx.allowPlatform Tx.throughWindow
   fit-said (Gate.setBlePeer id) z = if-checked (leave (v .core)) _ _ (λ a. search) (λ u. let s = short-id id _ _ u in search (if-cond, id-range))
   fit-said Gate.revokeCanReadWriteApproval z = untouched z refl refl
   fit-said (Gate.restoreCanReadWriteApproval approval) z = untouched z refl refl

@@ -1,4 +1,5 @@
-//! Writes a random script for the settings that the source was compiled with.
+//! Writes a random script for the settings that the source was compiled with. Its last line, a comment, says how many
+//! openings of a probe window were left out.
 
 use oracle::generate::{Options, script};
 use std::io::{self, BufWriter, Write};
@@ -47,7 +48,12 @@ fn main() -> ExitCode {
         }
     }
     let mut out = BufWriter::new(io::stdout().lock());
-    for line in script(seed, calls, options) {
+    let made = script(seed, calls, options);
+    let last = format!(
+        "# W-201: {} of {} openings left out",
+        made.left_out, made.openings
+    );
+    for line in made.lines.iter().chain([&last]) {
         if writeln!(out, "{line}").is_err() {
             return ExitCode::FAILURE;
         }

@@ -59,7 +59,7 @@ impl Run {
             states: false,
             texts: false,
         };
-        let lines = script(seed, CALLS_OF_A_SCRIPT, options);
+        let lines = script(seed, CALLS_OF_A_SCRIPT, options).lines;
         let calls: Vec<Call> = lines
             .iter()
             .map(|line| match parse(line) {

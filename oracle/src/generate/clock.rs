@@ -4,7 +4,7 @@ use super::Generator;
 use core_interface::oracle::{can_probe, validation};
 use core_interface::{PROBE_WINDOW_MS, VALIDATION_RESULT_KEEP_MS, VALIDATION_SESSION_MS};
 
-const TWO_TO_32: u64 = 1 << 32;
+pub(super) const TWO_TO_32: u64 = 1 << 32;
 
 impl Generator {
     /// Where a new gate's clock begins.

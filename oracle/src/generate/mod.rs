@@ -32,6 +32,16 @@ pub struct Generator {
     options: Options,
     /// The probe's frames of the last opening that was tried.
     probe: Vec<crate::items::ProbeFrame>,
+    openings: usize,
+    left_out: usize,
+}
+
+/// The lines of a script, how many openings of a probe window were chosen for it, and how many of these were left out
+/// since the source's rule for an awake bus is not that of W-201 at their moment.
+pub struct Script {
+    pub lines: Vec<String>,
+    pub openings: usize,
+    pub left_out: usize,
 }
 
 /// What a script may hold besides calls.
@@ -46,7 +56,7 @@ pub struct Options {
 }
 
 /// A script of `calls` calls; the same seed gives the same script.
-pub fn script(seed: u64, calls: usize, options: Options) -> Vec<String> {
+pub fn script(seed: u64, calls: usize, options: Options) -> Script {
     let mut generator = Generator {
         random: Random::new(seed),
         gate: Gate::least(),
@@ -56,14 +66,22 @@ pub fn script(seed: u64, calls: usize, options: Options) -> Vec<String> {
         wanted: calls,
         options,
         probe: Vec::new(),
+        openings: 0,
+        left_out: 0,
     };
     while !generator.is_full() {
         generator.one_gate();
     }
-    if options.texts {
-        return texts::with_texts(&generator.lines, seed);
+    let lines = if options.texts {
+        texts::with_texts(&generator.lines, seed)
+    } else {
+        generator.lines
+    };
+    Script {
+        lines,
+        openings: generator.openings,
+        left_out: generator.left_out,
     }
-    generator.lines
 }
 
 impl Generator {
@@ -99,7 +117,7 @@ impl Generator {
 
     /// Writes a call and runs it.
     fn emit(&mut self, call: Call) -> Option<Reply> {
-        if self.is_full() {
+        if self.is_full() || self.leaves_out(&call) {
             return None;
         }
         self.lines.push(call.to_string());
@@ -109,6 +127,17 @@ impl Generator {
             self.lines.push(Call::State {}.to_string());
         }
         Some(reply)
+    }
+
+    /// An opening at which the source's rule is not that of W-201.
+    fn leaves_out(&mut self, call: &Call) -> bool {
+        let Call::OpenProbe { bus, now, .. } = call else {
+            return false;
+        };
+        let differ = self.gate.marks.rules_differ(*bus, *now);
+        self.openings += 1;
+        self.left_out += usize::from(differ);
+        differ
     }
 
     /// With some chance a call that has nothing to do with the plan.

@@ -1,6 +1,7 @@
 //! Probe windows: opened, used, disturbed and closed.
 
 use super::Generator;
+use super::clock::TWO_TO_32;
 use crate::calls::Call;
 use crate::items::{Class, ProbeFrame};
 use core_interface::oracle::can_probe;
@@ -30,12 +31,8 @@ impl Generator {
         if core_interface::is_can_fd_bus(bus) && self.random.chance(2, 3) {
             self.emit(Call::NoteFd { bus, on: false });
         }
-        let heard = self.now;
-        self.emit(Call::Heard { bus, now: heard });
-        let awake = self
-            .random
-            .pick(&[0, 0, 0, 0, 1, 500, 999, 1_000, 1_000, 1_001, 1 << 32]);
-        let now = heard.wrapping_add(awake);
+        self.hear(bus);
+        let now = self.now.saturating_add_signed(self.since_heard());
         self.go_to(now);
         let Call::OpenProbe { frame, .. } = self.open_probe() else {
             return;
@@ -68,6 +65,31 @@ impl Generator {
                 _ => self.send_probe_frame(bus),
             }
         }
+    }
+
+    /// Mostly a frame on the bus now, and sometimes a later one before it. Moments whose mark is the source's "never" are
+    /// rare, since openings behind them are left out.
+    fn hear(&mut self, bus: u8) {
+        if self.now % TWO_TO_32 == TWO_TO_32 - 1 && self.random.chance(9, 10) {
+            self.go_to(self.now - 1);
+        }
+        let now = self.now;
+        if self.random.chance(1, 10) {
+            let later = now.saturating_add(self.random.pick(&[1, 500, 1_001, TWO_TO_32]));
+            self.emit(Call::Heard { bus, now: later });
+        }
+        if self.random.chance(9, 10) {
+            self.emit(Call::Heard { bus, now });
+        }
+    }
+
+    /// How long before the opening the bus was heard, or how long after it.
+    fn since_heard(&mut self) -> i64 {
+        let around = TWO_TO_32 as i64;
+        let late = self.random.pick(&[around - 1, around + 1_001]);
+        let before = self.random.pick(&[-1, -1, -999, -1_001, -around - 1]);
+        self.random
+            .pick(&[0, 0, 0, 0, 1, 500, 999, 1_000, 1_000, 1_001, late, before])
     }
 
     /// Every declared frame, in order.

@@ -1,19 +1,40 @@
 //! Wrong rules about probe windows, bus marks and frames.
 
-use super::{Wrong, run, wrong};
+use super::{Wrong, reply, run, wrong};
 use crate::answer::{Answer, Refusal, Reply};
 use crate::calls::Call;
-use crate::gate::Gate;
+use crate::gate::{Gate, plain};
 use crate::items::{Class, IdKind};
 use core_interface::PROBE_WINDOW_MS;
 use core_interface::oracle::can_probe;
 
 pub const RULES: &[Wrong] = &[
     wrong("awake-999", "a bus is awake for 999 ms", awake_999),
+    wrong("awake-1001", "a bus is awake for 1,001 ms", awake_1001),
     wrong(
-        "mark-without-one",
-        "the receive mark is the clock without 1 added",
-        mark_without_one,
+        "later-awake",
+        "a bus that was heard later than now is awake",
+        later_awake,
+    ),
+    wrong(
+        "never-awake",
+        "a bus that was never heard is awake as if heard at 0",
+        never_awake,
+    ),
+    wrong(
+        "zero-never",
+        "a bus that was heard at 0 counts as never heard",
+        zero_never,
+    ),
+    wrong(
+        "mark-wraps",
+        "the mark is the clock modulo 2^32",
+        mark_wraps,
+    ),
+    wrong(
+        "mark-greatest",
+        "an earlier frame does not replace a later mark",
+        mark_greatest,
     ),
     wrong("window-6001", "a window is open for 6,001 ms", window_6001),
     wrong(
@@ -108,50 +129,83 @@ fn drop_window(gate: &mut Gate) {
     can_probe::set_window(None);
 }
 
-fn plus_one(now: u64) -> u32 {
-    (now as u32).wrapping_add(1)
-}
-
-/// Runs the call with other marks, which are put back afterwards.
-fn with_marks(gate: &mut Gate, call: &Call, change: impl Fn(u32) -> u32) -> Reply {
+/// Runs an opening with its bus awake exactly if `awake` says so of its mark and now. The source's marks are put back
+/// afterwards.
+fn with_awake(gate: &mut Gate, call: &Call, awake: fn(Option<u64>, u64) -> bool) -> Reply {
     let marks = can_probe::marks();
-    can_probe::set_marks(marks.map(change));
+    let Call::OpenProbe { bus, now, .. } = call else {
+        return run(gate, call);
+    };
+    let mut changed = marks;
+    let Some(mark) = changed.get_mut(usize::from(*bus)) else {
+        return run(gate, call);
+    };
+    *mark = if awake(gate.marks.of(*bus), *now) {
+        // This ms, or the one before where this one's mark is the source's "never".
+        match (*now as u32).wrapping_add(1) {
+            0 => u32::MAX,
+            mark => mark,
+        }
+    } else {
+        0
+    };
+    can_probe::set_marks(changed);
     let reply = run(gate, call);
     can_probe::set_marks(marks);
     reply
 }
 
+/// Whether a bus heard at `mark` is awake, if it is so for `ms`.
+fn within(mark: u64, now: u64, ms: u64) -> bool {
+    now.checked_sub(mark).is_some_and(|since| since <= ms)
+}
+
 fn awake_999(gate: &mut Gate, call: &Call) -> Reply {
-    let Call::OpenProbe { now, .. } = call else {
-        return run(gate, call);
-    };
-    let now = plus_one(*now);
-    with_marks(gate, call, |mark| {
-        if now.wrapping_sub(mark) == 1_000 {
-            0
-        } else {
-            mark
-        }
+    with_awake(gate, call, |mark, now| {
+        mark.is_some_and(|mark| within(mark, now, 999))
     })
 }
 
-fn mark_without_one(gate: &mut Gate, call: &Call) -> Reply {
-    match call {
-        Call::OpenProbe { .. } => with_marks(gate, call, |mark| match mark {
-            0 => 0,
-            mark => mark.wrapping_add(1),
-        }),
-        Call::Heard { bus, now } => {
-            let reply = run(gate, call);
-            let mut marks = can_probe::marks();
-            if let Some(mark) = marks.get_mut(usize::from(*bus)) {
-                *mark = *now as u32;
-            }
-            can_probe::set_marks(marks);
-            reply
-        }
-        _ => run(gate, call),
+fn awake_1001(gate: &mut Gate, call: &Call) -> Reply {
+    with_awake(gate, call, |mark, now| {
+        mark.is_some_and(|mark| within(mark, now, 1_001))
+    })
+}
+
+fn later_awake(gate: &mut Gate, call: &Call) -> Reply {
+    with_awake(gate, call, |mark, now| {
+        mark.is_some_and(|mark| mark > now || within(mark, now, 1_000))
+    })
+}
+
+fn never_awake(gate: &mut Gate, call: &Call) -> Reply {
+    with_awake(gate, call, |mark, now| {
+        within(mark.unwrap_or(0), now, 1_000)
+    })
+}
+
+fn zero_never(gate: &mut Gate, call: &Call) -> Reply {
+    with_awake(gate, call, |mark, now| {
+        mark.is_some_and(|mark| mark != 0 && within(mark, now, 1_000))
+    })
+}
+
+fn mark_wraps(gate: &mut Gate, call: &Call) -> Reply {
+    let reply = run(gate, call);
+    if let Call::Heard { bus, now } = call {
+        gate.marks.hear(*bus, *now % (1 << 32));
     }
+    reply
+}
+
+/// The earlier frame is passed over.
+fn mark_greatest(gate: &mut Gate, call: &Call) -> Reply {
+    if let Call::Heard { bus, now } = call
+        && gate.marks.of(*bus).is_some_and(|mark| mark > *now)
+    {
+        return reply(plain(Answer::Ok));
+    }
+    run(gate, call)
 }
 
 /// The moment of a call that looks at the window.

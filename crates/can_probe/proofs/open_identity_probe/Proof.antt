@@ -26,7 +26,7 @@ leave-requires-2 c κs = tt
 
 returns-2 : tie.Need-returns-2
 unfolding openProbe checked
-returns-2 c = rw (c .leave2 .ensures, ← c .before .before .before .is-bus-awake .ensures, ← c .before .before .before .before .before .before .before .before .is-probe-needed .ensures, ← c .before .before .before .before .before .before .before .before .before .before .before .is-valid-probe .ensures, c .before .before .before .before .before .before .before .before .before .before .if1 .taken, c .before .before .before .before .before .before .before .if2 .taken, c .before .before .before .before .before .before .if3 .left, c .before .before .if4 .taken, c .before .if5 .taken)
+returns-2 c = rw (c .leave2 .ensures, ← c .before .before .before .is-bus-awake .ensures, ← c .before .before .before .before .before .before .before .before .before .is-probe-needed .ensures, ← c .before .before .before .before .before .before .before .before .before .before .before .before .is-valid-probe .ensures, c .before .before .before .before .before .before .before .before .before .before .before .if1 .taken, c .before .before .before .before .before .before .before .before .if2 .taken, c .before .before .before .before .before .before .before .if3 .left, c .before .before .if4 .taken, c .before .if5 .taken)
 
 new-window-requires : tie.Need-new-window-requires
 new-window-requires c κs = tt
@@ -39,21 +39,21 @@ window-changed-requires c κs = tt
 
 returns-3 : tie.Need-returns-3
 unfolding openProbe checked
-returns-3 c = rw (c .window-changed .ensures, c .before .before .new-window .ensures, ← c .before .before .before .before .before .before .before .is-bus-awake .ensures, ← c .before .before .before .before .before .before .before .before .before .before .before .before .is-probe-needed .ensures, ← c .before .before .before .before .before .before .before .before .before .before .before .before .before .before .before .is-valid-probe .ensures, c .before .before .before .before .before .before .before .before .before .before .before .before .before .before .if1 .taken, c .before .before .before .before .before .before .before .before .before .before .before .if2 .taken, c .before .before .before .before .before .before .before .before .before .before .if3 .left, c .before .before .before .before .before .before .if4 .taken, c .before .before .before .before .before .if5 .left, lt-leb _ _ (c .before .before .before .if6 .taken))
+returns-3 c = rw (c .window-changed .ensures, c .before .before .new-window .ensures, ← c .before .before .before .before .before .before .before .is-bus-awake .ensures, ← c .before .before .before .before .before .before .before .before .before .before .before .before .before .is-probe-needed .ensures, ← c .before .before .before .before .before .before .before .before .before .before .before .before .before .before .before .before .is-valid-probe .ensures, c .before .before .before .before .before .before .before .before .before .before .before .before .before .before .before .if1 .taken, c .before .before .before .before .before .before .before .before .before .before .before .before .if2 .taken, c .before .before .before .before .before .before .before .before .before .before .before .if3 .left, c .before .before .before .before .before .before .if4 .taken, c .before .before .before .before .before .if5 .left, lt-leb _ _ (c .before .before .before .if6 .taken))
 
 leave-requires-3 : tie.Need-leave-requires-3
 leave-requires-3 c κs = tt
 
 returns-4 : tie.Need-returns-4
 unfolding openProbe checked
-returns-4 c = rw (c .leave3 .ensures, ← c .before .before .before .before .before .is-bus-awake .ensures, ← c .before .before .before .before .before .before .before .before .before .before .is-probe-needed .ensures, ← c .before .before .before .before .before .before .before .before .before .before .before .before .before .is-valid-probe .ensures, c .before .before .before .before .before .before .before .before .before .before .before .before .if1 .taken, c .before .before .before .before .before .before .before .before .before .if2 .taken, c .before .before .before .before .before .before .before .before .if3 .left, c .before .before .before .before .if4 .taken, c .before .before .before .if5 .left, le-leb _ _ (c .before .if6 .left))
+returns-4 c = rw (c .leave3 .ensures, ← c .before .before .before .before .before .is-bus-awake .ensures, ← c .before .before .before .before .before .before .before .before .before .before .before .is-probe-needed .ensures, ← c .before .before .before .before .before .before .before .before .before .before .before .before .before .before .is-valid-probe .ensures, c .before .before .before .before .before .before .before .before .before .before .before .before .before .if1 .taken, c .before .before .before .before .before .before .before .before .before .before .if2 .taken, c .before .before .before .before .before .before .before .before .before .if3 .left, c .before .before .before .before .if4 .taken, c .before .before .before .if5 .left, le-leb _ _ (c .before .if6 .left))
 
 leave-requires-4 : tie.Need-leave-requires-4
 leave-requires-4 c κs = tt
 
 returns-5 : tie.Need-returns-5
 unfolding openProbe checked
-returns-5 c = rw (c .leave4 .ensures, ← c .before .before .is-bus-awake .ensures, ← c .before .before .before .before .before .before .before .is-probe-needed .ensures, ← c .before .before .before .before .before .before .before .before .before .before .is-valid-probe .ensures, c .before .before .before .before .before .before .before .before .before .if1 .taken, c .before .before .before .before .before .before .if2 .taken, c .before .before .before .before .before .if3 .left, c .before .if4 .left)
+returns-5 c = rw (c .leave4 .ensures, ← c .before .before .is-bus-awake .ensures, ← c .before .before .before .before .before .before .before .before .is-probe-needed .ensures, ← c .before .before .before .before .before .before .before .before .before .before .before .is-valid-probe .ensures, c .before .before .before .before .before .before .before .before .before .before .if1 .taken, c .before .before .before .before .before .before .before .if2 .taken, c .before .before .before .before .before .before .if3 .left, c .before .if4 .left)
 
 leave-requires-5 : tie.Need-leave-requires-5
 leave-requires-5 c κs = tt

@@ -17,4 +17,4 @@ put-probe-spec =
     (λ c κs. tt)
     (λ c κs. tt)
     (λ c. search needs)
-    (λ c. rw (c .before .before .put-marks .ensures, c .before .before .before .before .before .before .before .put-fields .ensures, c .before .before .before .before .before .before .before .before .before .before .before .before .before .before .put-window .ensures)))
+    (λ c. rw (c .before .before .put-marks .ensures, c .before .before .before .before .before .before .before .before .put-fields .ensures, c .before .before .before .before .before .before .before .before .before .before .before .before .before .before .before .put-window .ensures)))
