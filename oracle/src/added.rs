@@ -10,6 +10,7 @@ use core_interface::oracle::validation::SessionView;
 use core_interface::oracle::{
     availability, can, can_access, can_log, can_tx, phone_trust, validation,
 };
+use core_interface::proto::PhoneValidationStatus as Status;
 use core_interface::proto::system_command_result::Result as Data;
 use core_interface::{CanFrame, CanTxFrame, IdentityProbe, ValidationChallenge, ValidationError};
 use embedded_can::{ExtendedId, Id, StandardId};
@@ -29,7 +30,7 @@ impl Gate {
                 method,
                 now,
                 random,
-            } => start(phone, method, *now, random),
+            } => self.start(phone, method, *now, random),
             Call::Submit { phone, code, now } => submit(phone, code, *now),
             Call::Complete { session, now } => complete(*session, *now),
             Call::Pair { phone } => pair(phone),
@@ -122,6 +123,46 @@ impl Gate {
         }
     }
 
+    /// 18, 7 by the number of lent bytes, and 19 where the source would look for a group for ever. The source's session
+    /// gets the gate's tries.
+    fn start(&self, phone: &[u8], method: &[u8], now: u64, random: &[u8]) -> Outcome {
+        if phone.len() > MAX_ID_BYTES {
+            return refused(Refusal::IdTooLong);
+        }
+        // Methods have ids of ASCII; bytes that are no text become a text that is none of them.
+        let method = String::from_utf8_lossy(method);
+        host::lend(random);
+        validation::set_random((!random.is_empty()).then_some(host::fill));
+        let started = catch_unwind(AssertUnwindSafe(|| {
+            validation::start_validation(phone, &method, now)
+        }));
+        validation::set_random(None);
+        match started {
+            Ok(Ok(session)) => {
+                validation::set_attempts_left(self.tries);
+                (Answer::Ok, Values::session(session.into()))
+            }
+            Ok(Err((error, data))) => (Answer::Refused(error.into()), refusal_values(error, data)),
+            Err(stopped) if stopped.is::<RandomSpent>() => refused(Refusal::RandomSpent),
+            Err(panic) => resume_unwind(panic),
+        }
+    }
+
+    /// W-206, behind each call: the gate's tries are those that the source's session has left, and full again if the call
+    /// ended a session as Succeeded or Failed.
+    pub(crate) fn keep_tries(&mut self, ran: bool) {
+        let Some(session) = validation::session() else {
+            return;
+        };
+        let ended_so = matches!(session.status, Status::Succeeded | Status::Failed);
+        self.tries = if ran && ended_so {
+            self.settings.tries
+        } else {
+            session.attempts_left
+        };
+        validation::set_attempts_left(self.tries);
+    }
+
     /// A place past the methods does nothing.
     fn note(&self, place: u32, on: bool, set: fn(usize, bool)) -> Outcome {
         if (place as usize) < self.settings.methods.len() {
@@ -131,25 +172,9 @@ impl Gate {
     }
 }
 
-/// 18, 7 by the number of lent bytes, and 19 where the source would look for a group for ever.
-fn start(phone: &[u8], method: &[u8], now: u64, random: &[u8]) -> Outcome {
-    if phone.len() > MAX_ID_BYTES {
-        return refused(Refusal::IdTooLong);
-    }
-    // Methods have ids of ASCII; bytes that are no text become a text that is none of them.
-    let method = String::from_utf8_lossy(method);
-    host::lend(random);
-    validation::set_random((!random.is_empty()).then_some(host::fill));
-    let started = catch_unwind(AssertUnwindSafe(|| {
-        validation::start_validation(phone, &method, now)
-    }));
-    validation::set_random(None);
-    match started {
-        Ok(Ok(session)) => (Answer::Ok, Values::session(session.into())),
-        Ok(Err((error, data))) => (Answer::Refused(error.into()), refusal_values(error, data)),
-        Err(stopped) if stopped.is::<RandomSpent>() => refused(Refusal::RandomSpent),
-        Err(panic) => resume_unwind(panic),
-    }
+/// Whether a session runs.
+pub(crate) fn is_running() -> bool {
+    validation::session().is_some_and(|session| session.status == Status::InProgress)
 }
 
 /// The session with a wrong code, the seconds with a cooldown.

@@ -1,8 +1,11 @@
-//! Runs one call on the compiled source. Where document 01 adds nothing, the call goes straight to it.
+//! Runs one call on the compiled source. Where documents 01 and 02 add nothing, the call goes straight
+//! to it.
 
+use crate::added::is_running;
 use crate::answer::{Answer, Refusal, Reply, Signals, Values};
 use crate::calls::Call;
 use crate::host::{self, Settings};
+use crate::items::MethodKind;
 use crate::marks::Marks;
 use core_interface::ProbeWindow;
 use core_interface::oracle::{can_probe, validation};
@@ -17,6 +20,8 @@ pub struct Gate {
     /// The source hands the window out and closes it when this is dropped.
     pub(crate) window: Option<ProbeWindow>,
     pub(crate) marks: Marks,
+    /// The tries left, which W-206 gives the gate.
+    pub(crate) tries: u32,
 }
 
 /// What a call gives but for its signals.
@@ -53,6 +58,7 @@ impl Gate {
             settings: Settings::least(),
             window: None,
             marks: Marks::default(),
+            tries: Settings::least().tries,
         };
         gate.make_new(Settings::least());
         gate
@@ -69,8 +75,20 @@ impl Gate {
         }
     }
 
-    /// Runs a call; its signals are left in the source's channels.
+    /// Runs a call; its signals are left in the source's channels. A reply of a code entry session shows the gate's tries.
     pub fn run(&mut self, call: &Call) -> Outcome {
+        let ran = is_running();
+        let (answer, mut values) = self.run_source(call);
+        self.keep_tries(ran);
+        if let Some(shown) = &mut values.session
+            && shown.kind == MethodKind::Code
+        {
+            shown.tries = self.tries;
+        }
+        (answer, values)
+    }
+
+    fn run_source(&mut self, call: &Call) -> Outcome {
         if let Some(outcome) = self.run_added(call) {
             return outcome;
         }
@@ -147,6 +165,7 @@ impl Gate {
         oracle::pairing::set_bonded_limit(settings.bonded as u8);
         host::declare_methods(&settings.methods);
         self.marks = Marks::default();
+        self.tries = settings.tries;
         self.settings = settings;
     }
 }

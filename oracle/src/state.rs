@@ -14,23 +14,27 @@ use embedded_can::Id;
 /// Everything but the settings, as the source has it.
 pub fn show_statics() -> String {
     let marks = can_probe::marks().map(|mark| mark.to_string());
-    show_all(&marks.join(","))
-}
-
-fn show_all(marks: &str) -> String {
     let parts = [
         show_access(),
         show_phones(),
         show_session(),
-        show_probe(marks),
+        show_probe(&marks.join(",")),
     ];
     parts.join(" ")
 }
 
 impl Gate {
-    /// The state line; its marks are W-201's.
+    /// The state line; its marks are W-201's, its tries W-206's.
     pub fn show_state(&self) -> String {
-        format!("{} {}", self.show_settings(), show_all(&self.marks.show()))
+        let parts = [
+            self.show_settings(),
+            show_access(),
+            show_phones(),
+            show_session(),
+            format!("tries_left={}", self.tries),
+            show_probe(&self.marks.show()),
+        ];
+        parts.join(" ")
     }
 
     fn show_settings(&self) -> String {
@@ -121,13 +125,12 @@ fn show_running(session: &SessionView) -> String {
         None => "-".to_string(),
     };
     format!(
-        "session={} phone={} method={} session_car={} status={} tries_left={} deadline={} ended_at={} code={code}",
+        "session={} phone={} method={} session_car={} status={} deadline={} ended_at={} code={code}",
         session.id,
         to_hex(&session.phone),
         place(session.method),
         to_hex(&session.car),
         status_name(session.status),
-        session.attempts_left,
         session.deadline_ms,
         session.ended_at_ms
     )

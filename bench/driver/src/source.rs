@@ -1,12 +1,14 @@
 //! The Rust source's side: the same rounds, on its statics. After each call every channel is emptied and looked at, as the
 //! proved side looks at the signals that a call returns, and the same sum is made.
 
-use crate::work::{BUS, FRAME_DATA, FRAME_ID, METHOD, PLATFORM, RANDOM, Work};
+use crate::work::{BUS, FRAME_DATA, FRAME_ID, METHOD, PLATFORM, RANDOM, RIGHT, Work};
 use core_interface::oracle;
 use core_interface::oracle::{availability, can, can_access, pairing, validation};
 use core_interface::proto::PhoneValidationSession;
 use core_interface::proto::system_command_result::Result as Data;
-use core_interface::{CanFrame, CanTxFrame, ValidationError, ValidationKind, ValidationMethod};
+use core_interface::{
+    CanFrame, CanTxFrame, MAX_CODE_ATTEMPTS, ValidationError, ValidationKind, ValidationMethod,
+};
 use embedded_can::{Id, StandardId};
 use std::hint::black_box;
 
@@ -83,10 +85,9 @@ fn raised(i: u64) -> u32 {
         + digit
 }
 
+/// The tries are left out: the source's are the session's, and the proved gate's its own (W-206).
 fn reply(session: &PhoneValidationSession) -> u32 {
-    session
-        .expires_in_s
-        .wrapping_add(session.attempts_left % 256)
+    session.expires_in_s
 }
 
 type Session = Result<PhoneValidationSession, (ValidationError, Data)>;
@@ -118,10 +119,19 @@ pub fn starts(work: &Work, n: u64) -> u32 {
     (0..n).fold(0, |sum: u32, i| sum.wrapping_add(start(work, i)))
 }
 
+/// Each session gets the tries that the ones before it left, as W-206 has it: on both sides the same wrong codes end one.
 pub fn submits(work: &Work, typed: &[u8], n: u64) -> u32 {
     ready(work);
+    let mut tries = MAX_CODE_ATTEMPTS;
     (0..n).fold(0, |sum: u32, i| {
-        sum.wrapping_add(start(work, i))
+        let started = start(work, i);
+        validation::set_attempts_left(tries);
+        tries = if typed == RIGHT || tries == 1 {
+            MAX_CODE_ATTEMPTS
+        } else {
+            tries - 1
+        };
+        sum.wrapping_add(started)
             .wrapping_add(submit(work, typed, i))
     })
 }

@@ -37,7 +37,7 @@ writable digest = record {
 }
 
 abbrev pub settings : Settings
-settings = record { digits = 4; tries = 3; session = 60000; cooldown = 30000; keep = 10000; bonded = 32 }
+settings = record { digits = 4; tries = 3; session = 60000; cooldown = 0; keep = 10000; bonded = 32 }
 
 abbrev pub methodOf : MadeId → Method
 methodOf made = record { id = made .id; kind = CodeEntry; «needs_approval» = true }

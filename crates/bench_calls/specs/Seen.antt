@@ -3,7 +3,6 @@ use mathlib.Core.Bool.{Bool, cond}
 use Prim.Native.Nat.{ℕ, _+_, _%_, _^_}
 use lib.ListN.{getD}
 use Rattle.saved_record.specs.declared.SavedRecord.{SavedRecord}
-use Rattle.state.specs.declared.SessionReply.{SessionReply}
 use Rattle.state.specs.declared.Challenge.{Challenge}
 use Rattle.state.specs.declared.Signals.{Signals}
 use Rattle.state.specs.declared.Answer.{Answer}
@@ -32,9 +31,6 @@ flags s =
 abbrev pub raised : Signals → ℕ → ℕ
 raised s i = add (flags s) (add (recordByte (s .validations .stored) i) (digit (s .challenge .challenge) i))
 
-abbrev pub reply : SessionReply → ℕ
-reply s = add (s .seconds) (s .tries % 256)
-
 abbrev pub answerSeen : Answer → ℕ
 answerSeen Done = 2
 answerSeen Yes = 1
@@ -43,7 +39,7 @@ answerSeen Nothing = 0
 answerSeen (Count n) = 0
 answerSeen (Number n) = 0
 answerSeen (Reason n) = 0
-answerSeen (Session s) = add (reply s) 3
+answerSeen (Session s) = add (s .seconds) 3
 answerSeen UnknownMethod = 0
 answerSeen CarNotIdentified = 0
 answerSeen (CoolingDown n) = 0
@@ -53,7 +49,7 @@ answerSeen MethodNotAvailableNow = 0
 answerSeen NoRandomSource = 0
 answerSeen NoSession = 0
 answerSeen NotCodeEntry = 0
-answerSeen (WrongCode s) = add (reply s) 4
+answerSeen (WrongCode s) = add (s .seconds) 4
 answerSeen NoDevLock = 0
 answerSeen NotNeeded = 0
 answerSeen Logging = 0

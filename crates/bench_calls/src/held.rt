@@ -103,7 +103,7 @@ pub fn ready(digest: [u8; 32], bytes: &[u8], method: &[u8]) -> Gate
         digits: 4,
         tries: 3,
         session: 60_000,
-        cooldown: 30_000,
+        cooldown: 0,
         keep: 10_000,
         bonded: 32,
     };

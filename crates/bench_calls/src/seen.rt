@@ -3,7 +3,6 @@ use saved_record::SavedRecord;
 use state::Answer;
 use state::Challenge;
 use state::Outcome;
-use state::SessionReply;
 use state::Signals;
 ghost use mathlib.Core.Path.{_≡_};
 ghost use Rattle.definition.specs.Gate.{given};
@@ -66,20 +65,14 @@ fn raised(s: Signals, i: u64) -> u32
     add(flags(s), bytes)
 }
 
-fn reply(s: SessionReply) -> u32
-    ensures { λ r. ⌜ r ≡ Seen.reply s ⌝ }
-{
-    add(s.seconds, (s.tries % 256) as u32)
-}
-
 fn answer_seen(a: Answer) -> u32
     ensures { λ r. ⌜ r ≡ Seen.answerSeen a ⌝ }
 {
     match a {
         Answer::Done => 2,
         Answer::Yes => 1,
-        Answer::Session(s) => add(reply(s), 3),
-        Answer::WrongCode(s) => add(reply(s), 4),
+        Answer::Session(s) => add(s.seconds, 3),
+        Answer::WrongCode(s) => add(s.seconds, 4),
         Answer::No => 0,
         Answer::Nothing => 0,
         Answer::Count(_) => 0,

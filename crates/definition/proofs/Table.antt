@@ -106,7 +106,7 @@ unfolding Probe.isValidProbe Probe.windowChanged Probe.openProbe Tx.throughWindo
 openProbe3 = tt
 
 unfoldable openSessions1 : Unit {0}
-unfolding Times.saturatingAdd Times.secondsTo Session.secondsOf Session.replyOf Session.endedAs Session.triedOnce Session.isOf
+unfolding Times.saturatingAdd Times.secondsTo Session.secondsOf Session.replyOf Session.endedAs Session.isOf
 openSessions1 = tt
 
 unfoldable openSessions2 : Unit {0}
@@ -122,7 +122,7 @@ unfolding Validation.newSession Validation.challengeFor Validation.begin Validat
 openSessions4 = tt
 
 unfoldable openSessions5 : Unit {0}
-unfolding Validation.succeededCore Validation.succeed Validation.failedCore Validation.triedCore
+unfolding Validation.refilled Validation.succeededCore Validation.succeed Validation.failedCore Validation.triedCore
 openSessions5 = tt
 
 unfoldable openSessions6 : Unit {0}

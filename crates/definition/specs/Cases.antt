@@ -154,10 +154,10 @@ p6 =
 abbrev pub wrong : ℕ → Call
 wrong clock = submitValidationCode phone (ascii "0000") clock
 
--- P7 third wrong code at 5,000: start at 34,999 gives 3 with 1 s; at 35,000 it passes.
+-- P7 third wrong code at 5,000: start at 34,999 gives 3 with 1 s; at 35,000 it passes. The session that failed shows the tries full again (W-206).
 abbrev pub p7 : List Row
 p7 =
-    (answerAfter knownCar (start 1_000 ∷ wrong 3_000 ∷ wrong 4_000 ∷ []) (wrong 5_000) gives refused 10 (sessionOf Failed 0 0 30)) ∷
+    (answerAfter knownCar (start 1_000 ∷ wrong 3_000 ∷ wrong 4_000 ∷ []) (wrong 5_000) gives refused 10 (sessionOf Failed 3 0 30)) ∷
     (answerAfter knownCar (start 1_000 ∷ wrong 3_000 ∷ wrong 4_000 ∷ wrong 5_000 ∷ []) (start 34_999) gives refused 3 (seconds 1)) ∷
     (answerAfter knownCar (start 1_000 ∷ wrong 3_000 ∷ wrong 4_000 ∷ wrong 5_000 ∷ []) (start 35_000) gives running 60) ∷ []
 

@@ -25,7 +25,7 @@ use Rattle.validations.specs.Store.{noStore}
 use Rattle.probe_window.specs.Window.{noWindow}
 
 abbrev pub noSession : Session
-noSession = record { present = false; number = 0; phone = idOf []; method = 0; car = replicate 32 0; tries = 0; deadline = 0; status = InProgress; ended = 0 }
+noSession = record { present = false; number = 0; phone = idOf []; method = 0; car = replicate 32 0; deadline = 0; status = InProgress; ended = 0 }
 
 abbrev pub newPolicy : Policy
 newPolicy = record {
@@ -47,7 +47,7 @@ newCore settings methods = record {
   methods = methods;
   policy = newPolicy;
   peer = idOf [];
-  validation = record { session = noSession; «cooldown_until» = 0; next = 1 };
+  validation = record { session = noSession; «cooldown_until» = 0; next = 1; tries = settings .tries };
   probe = newProbe;
 }
 

@@ -38,7 +38,6 @@ fn no_session() -> Session
         phone,
         method: 0,
         car,
-        tries: 0,
         deadline: 0,
         status: Status::InProgress,
         ended: 0,
@@ -132,6 +131,7 @@ fn new_core(settings: Settings, methods: Methods) -> Core
         session,
         cooldown_until: 0,
         next: 1,
+        tries: settings.tries,
     };
     let probe = new_probe();
     Core {

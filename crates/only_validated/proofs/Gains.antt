@@ -75,7 +75,7 @@ module _ (P : List ℕ → List ℕ → Type 0) where
       (λ x. k (λ r. untrue (sym x ∙ r)))
 
   only-succeed : (c : Core) (a : Answer) (clock : ℕ) → P (c .validation .session .car) (idBytes (c .validation .session .phone)) → Only P (Validation.succeed c a clock)
-  unfolding Validation.succeed Validation.succeededCore finish endedAs
+  unfolding Validation.succeed Validation.succeededCore Validation.refilled finish endedAs
   only-succeed c a clock p = record { only = λ e. p }
 
 -- ---- the calls that validate

@@ -9,9 +9,9 @@ use Rattle.state.specs.declared.Method.{Method}
 use Rattle.state.specs.declared.Settings.{Settings}
 use Rattle.state.specs.declared.Methods.{Methods}
 use Rattle.state.specs.declared.Session.{Session}
+use Rattle.state.specs.declared.Validation.{Validation}
 use Rattle.state.specs.declared.Window.{Window}
 use Rattle.state.specs.declared.Core.{Core}
-use Rattle.state.specs.Running.{codeInProgress}
 use Rattle.state.specs.View.{View}
 
 -- x is from low to high
@@ -52,26 +52,26 @@ methodsIn list count = cond (ltb 8 count) false (allFit (take count list))
 unfoldable pub methodsFit : Methods → Bool
 methodsFit m = methodsIn (m .list) (m .count)
 
--- 01, New gate: while a CodeEntry session is InProgress, its tries left are from 1 to the set number
-unfoldable pub triesFit : Settings → Methods → Session → Bool
-triesFit settings m s = cond (codeInProgress m s) (within 1 (settings .tries) (s .tries)) true
+-- 02, W-206: the tries left are from 1 to the set number
+unfoldable pub triesFit : Settings → Validation → Bool
+triesFit settings v = within 1 (settings .tries) (v .tries)
 
--- of a session, ended ones too: the length of its phone's id, its method place, its tries
-unfoldable pub sessionFits : Settings → Methods → Session → Bool
-sessionFits settings m s =
-    cond (s .present) (idInRange (s .phone) && ltb (s .method) (m .count) && triesFit settings m s) true
+-- of a session, ended ones too: the length of its phone's id, its method place
+unfoldable pub sessionFits : Methods → Session → Bool
+sessionFits m s = cond (s .present) (idInRange (s .phone) && ltb (s .method) (m .count)) true
 
 -- 01, Open probe: a window has 1 to 4 frames
 unfoldable pub windowFits : Window → Bool
 windowFits w = cond (w .present) (within 1 4 (w .count)) true
 
--- 01, New gate: no count, length, method place or setting of the core is out of range
+-- 01, New gate: no count, length, method place or setting of the core is out of range; W-206: nor are the tries left
 unfoldable pub coreFits : Core → Bool
 coreFits c =
     settingsFit (c .settings)
     && methodsFit (c .methods)
     && idInRange (c .peer)
-    && sessionFits (c .settings) (c .methods) (c .validation .session)
+    && sessionFits (c .methods) (c .validation .session)
+    && triesFit (c .settings) (c .validation)
     && windowFits (c .probe .window)
 
 -- 01, New gate: a gate out of range gets 25 first. Lists: the counts and lengths of both

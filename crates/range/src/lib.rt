@@ -9,7 +9,7 @@ use state::Window;
 ghost use mathlib.Core.Path.{_≡_};
 ghost use Rattle.state.specs.View.{view};
 ghost use Rattle.range.specs.Range as Range;
-ghost use Rattle.range.specs.Range.{settingsFit, methodFits, methodsIn, methodsFit, triesFit, sessionFits, windowFits, coreFits, inRange};
+ghost use Rattle.range.specs.Range.{settingsFit, methodFits, methodsIn, methodsFit, sessionFits, windowFits, coreFits, inRange};
 
 pub fn within(low: u64, high: u64, x: u64) -> bool
     ensures { λ r. ⌜ r ≡ Range.within low high x ⌝ }
@@ -98,24 +98,13 @@ pub fn methods_fit(m: Methods) -> bool
     methods_in(list, m.count)
 }
 
-fn tries_fit(settings: Settings, m: Methods, s: Session) -> bool
-    ensures { λ r. ⌜ r ≡ triesFit settings m s ⌝ }
-{
-    if state::running::code_in_progress(m, s) {
-        return within(1, settings.tries as u64, s.tries as u64);
-    }
-    true
-}
-
-fn session_fits(settings: Settings, m: Methods, s: Session) -> bool
-    ensures { λ r. ⌜ r ≡ sessionFits settings m s ⌝ }
+fn session_fits(m: Methods, s: Session) -> bool
+    ensures { λ r. ⌜ r ≡ sessionFits m s ⌝ }
 {
     if s.present {
         let phone = s.phone;
         if phones::id_in_range(phone) {
-            if s.method < m.count {
-                return tries_fit(settings, m, s);
-            }
+            return s.method < m.count;
         }
         return false;
     }
@@ -141,9 +130,11 @@ fn core_fits(c: Core) -> bool
             let peer = c.peer;
             if phones::id_in_range(peer) {
                 let session = c.validation.session;
-                if session_fits(settings, methods, session) {
-                    let window = c.probe.window;
-                    return window_fits(window);
+                if session_fits(methods, session) {
+                    if within(1, settings.tries as u64, c.validation.tries as u64) {
+                        let window = c.probe.window;
+                        return window_fits(window);
+                    }
                 }
             }
         }

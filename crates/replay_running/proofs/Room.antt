@@ -46,18 +46,17 @@ whose-in s vs h =
     item-in (ascii " session=") (s .number) (omega arith) ⊕ text-in (ascii " phone=") ⊕ id-in (s .phone) (le-of-eq (search needs))
     ⊕ item-in (ascii " method=") (s .method) (omega arith)
 
-stands-in : (s : Session) (vs : List Val) → Owned Session.the-field s vs → Within 188 (stands s)
+stands-in : (s : Session) (vs : List Val) → Owned Session.the-field s vs → Within 156 (stands s)
 unfolding stands
 stands-in s vs h =
     text-in (ascii " session_car=") ⊕ bytes-in (s .car) 32 (le-of-eq (search needs)) ⊕ word-in (ascii " status=") (statusName (s .status)) 11 (status-in (s .status))
-    ⊕ item-in (ascii " tries_left=") (s .tries) (omega arith) ⊕ item-in (ascii " deadline=") (s .deadline) (omega arith)
-    ⊕ item-in (ascii " ended_at=") (s .ended) (omega arith)
+    ⊕ item-in (ascii " deadline=") (s .deadline) (omega arith) ⊕ item-in (ascii " ended_at=") (s .ended) (omega arith)
 
-pub session-in : (g : Gate) (vs : List Val) → Owned Session.the-field (g .core .validation .session) vs → length (g .code) ≤ 9 → Within 340 (sessionOrNone g)
+pub session-in : (g : Gate) (vs : List Val) → Owned Session.the-field (g .core .validation .session) vs → length (g .code) ≤ 9 → Within 308 (sessionOrNone g)
 unfolding sessionOrNone
 session-in g vs h c =
     let s = g .core .validation .session in
-    either (s .present) (whose-in s vs h ⊕ stands-in s vs h ⊕ code-in g c) (upto 340 (lit≤ tt) (word-in (ascii " session=") (ascii "none") 4 (lit≤ tt)))
+    either (s .present) (whose-in s vs h ⊕ stands-in s vs h ⊕ code-in g c) (upto 308 (lit≤ tt) (word-in (ascii " session=") (ascii "none") 4 (lit≤ tt)))
 
 -- ---- the probe
 

@@ -21,7 +21,7 @@ whose s p = p ▸ item (ascii " session=") (s .number) ▸ text (ascii " phone="
 unfoldable pub stands : Session → Page → Page
 stands s p =
     p ▸ text (ascii " session_car=") ▸ bytes (s .car) ▸ word (ascii " status=") (statusName (s .status))
-    ▸ item (ascii " tries_left=") (s .tries) ▸ item (ascii " deadline=") (s .deadline) ▸ item (ascii " ended_at=") (s .ended)
+    ▸ item (ascii " deadline=") (s .deadline) ▸ item (ascii " ended_at=") (s .ended)
 
 unfoldable pub sessionOrNone : Gate → Page → Page
 sessionOrNone g p =

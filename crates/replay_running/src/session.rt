@@ -48,9 +48,9 @@ fn put_stands(out: &mut [u8], at: usize, s: Session) -> usize
     let fields = [
         Field::Known(key::SESSION_CAR, true),
         Field::Word(key::STATUS, status),
-        Field::Number(key::TRIES_LEFT, s.tries as u64),
         Field::Number(key::DEADLINE, s.deadline),
         Field::Number(key::ENDED_AT, s.ended),
+        Field::Nothing,
         Field::Nothing,
         Field::Nothing,
         Field::Nothing,

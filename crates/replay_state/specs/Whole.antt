@@ -79,4 +79,4 @@ unfoldable pub gate : Gate → Page → Page
 gate g p =
     p ▸ front (g .core) (g .phones) ▸ sessionOrNone g
     ▸ item (ascii " cooldown_until=") (g .core .validation .«cooldown_until») ▸ item (ascii " next_session=") (g .core .validation .next)
-    ▸ probe (g .core .probe)
+    ▸ item (ascii " tries_left=") (g .core .validation .tries) ▸ probe (g .core .probe)

@@ -1,8 +1,8 @@
--- A try that is not there, and the steps of the loop that looks for a method.
+-- Steps of the loop that looks for a method.
 use mathlib.Core.Path.{_≡_, ap, _∙_}
 use mathlib.Core.Bool.{Bool, true, false, cond}
 use mathlib.Core.List.{List, [], _∷_}
-use Prim.Native.Nat.{ℕ, zero, suc, _+_, _-_, _≤_, _<_, min}
+use Prim.Native.Nat.{ℕ, zero, suc, _+_, _≤_, _<_, min}
 use native.Mathlib.Nat.{zero-min, min-zero, suc-min-suc}
 use native.Mathlib.Numerals.{add-one}
 use native.Mathlib.Omega.{arith}
@@ -12,18 +12,8 @@ use Rattle.arrays.specs.Arrays.{sameBytes}
 use Rattle.phones.specs.Phones.{idBytes}
 use Rattle.state.specs.declared.Method.{Method}
 use Rattle.state.specs.declared.Methods.{Methods}
-use Rattle.state.specs.declared.Session.{Session}
 use Rattle.state.specs.Running.{pastMethods}
-use Rattle.session.specs.Session.{triedOnce, placeFrom, placeOf}
-
--- no try is left: none is taken
-pub tried-none : (s : Session) → s .tries ≤ 0 → s ≡ triedOnce s
-unfolding triedOnce
-tried-none s h =
-    let k : s .tries - 1 ≡ s .tries = omega arith in
-    rw k
-
--- ---- the search
+use Rattle.session.specs.Session.{placeFrom, placeOf}
 
 take-min : {A : Type 0} (n : ℕ) (xs : List A) → take (min n (length xs)) xs ≡ take n xs
 take-min zero xs = rw zero-min

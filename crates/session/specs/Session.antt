@@ -1,7 +1,7 @@
 -- What a session shows, and its ends (validation.rs).
 use mathlib.Core.Bool.{Bool, true, false, cond, not, _&&_, _||_}
 use mathlib.Core.List.{List, [], _∷_}
-use Prim.Native.Nat.{ℕ, zero, suc, _-_}
+use Prim.Native.Nat.{ℕ, suc}
 use lib.Dec.{ltb}
 use lib.ListN.{getD, take}
 use Rattle.arrays.specs.Arrays.{sameBytes}
@@ -26,7 +26,7 @@ use Rattle.session.specs.declared.Lapse.the-variants.{Stays, Ends}
 unfoldable pub secondsOf : Session → ℕ → ℕ
 secondsOf s clock = cond (isRunning (s .status)) (secondsTo (s .deadline) clock) 0
 
--- session_proto
+-- session_proto; the tries are the gate's (W-206)
 unfoldable pub replyOf : Core → Session → ℕ → SessionReply
 replyOf c s clock =
     let kind = methodAt (c .methods) (s .method) .kind in
@@ -35,7 +35,7 @@ replyOf c s clock =
       kind = kind;
       status = s .status;
       length = cond (isCode kind) (c .settings .digits) 0;
-      tries = cond (isCode kind) (s .tries) 0;
+      tries = cond (isCode kind) (c .validation .tries) 0;
       seconds = secondsOf s clock;
       cooldown = secondsTo (c .validation .«cooldown_until») clock;
     }
@@ -50,24 +50,9 @@ endedAs s status clock = record {
   phone = s .phone;
   method = s .method;
   car = s .car;
-  tries = s .tries;
   deadline = s .deadline;
   status = status;
   ended = clock;
-}
-
--- one try fewer
-unfoldable pub triedOnce : Session → Session
-triedOnce s = record {
-  present = s .present;
-  number = s .number;
-  phone = s .phone;
-  method = s .method;
-  car = s .car;
-  tries = s .tries - 1;
-  deadline = s .deadline;
-  status = s .status;
-  ended = s .ended;
 }
 
 -- the session is this phone's

@@ -10,7 +10,7 @@ ghost use mathlib.Core.Bool.{cond};
 ghost use Prim.Native.Nat.{min};
 ghost use Rattle.state.specs.declared.Status.the-variants.{Cancelled, TimedOut};
 ghost use Rattle.session.specs.declared.Lapse.the-variants.{Stays, Ends};
-ghost use Rattle.session.specs.Session.{secondsOf, replyOf, endedAs, triedOnce, isOf, lostReadWrite, noteAt, cannotGoOn, lapseOf, placeOf};
+ghost use Rattle.session.specs.Session.{secondsOf, replyOf, endedAs, isOf, lostReadWrite, noteAt, cannotGoOn, lapseOf, placeOf};
 
 // What a tick does to the session.
 pub enum Lapse {
@@ -29,7 +29,7 @@ fn seconds_of(s: Session, clock: u64) -> u32
     0
 }
 
-// session_proto.
+// session_proto; the tries are the gate's.
 pub fn reply_of(core: Core, s: Session, clock: u64) -> SessionReply
     ensures { λ r. ⌜ r ≡ replyOf core s clock ⌝ }
 {
@@ -46,7 +46,7 @@ pub fn reply_of(core: Core, s: Session, clock: u64) -> SessionReply
             kind,
             status,
             length: core.settings.digits,
-            tries: s.tries,
+            tries: core.validation.tries,
             seconds,
             cooldown,
         };
@@ -74,23 +74,10 @@ pub fn ended_as(s: Session, status: Status, clock: u64) -> Session
         phone,
         method: s.method,
         car,
-        tries: s.tries,
         deadline: s.deadline,
         status,
         ended: clock,
     }
-}
-
-// One try fewer; none fewer than none.
-pub fn tried_once(s: Session) -> Session
-    ensures { λ r. ⌜ r ≡ triedOnce s ⌝ }
-{
-    let mut t = s;
-    if 0 < s.tries {
-        t.tries = s.tries - 1;
-        return t;
-    }
-    t
 }
 
 pub fn is_of(s: Session, phone: &[u8]) -> bool

@@ -38,7 +38,6 @@ fn new_session(core: Core, phone: &[u8], at: usize, clock: u64) -> Session
         phone: id,
         method: at,
         car,
-        tries: core.settings.tries,
         deadline,
         status: Status::InProgress,
         ended: 0,

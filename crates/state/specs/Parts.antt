@@ -31,13 +31,16 @@ withProbe c x = record { settings = c .settings; methods = c .methods; policy = 
 -- ---- a session's state
 
 abbrev pub withSession : Validation → Session → Validation
-withSession v x = record { session = x; «cooldown_until» = v .«cooldown_until»; next = v .next }
+withSession v x = record { session = x; «cooldown_until» = v .«cooldown_until»; next = v .next; tries = v .tries }
 
 abbrev pub withCooldown : Validation → ℕ → Validation
-withCooldown v x = record { session = v .session; «cooldown_until» = x; next = v .next }
+withCooldown v x = record { session = v .session; «cooldown_until» = x; next = v .next; tries = v .tries }
 
 abbrev pub withNext : Validation → ℕ → Validation
-withNext v x = record { session = v .session; «cooldown_until» = v .«cooldown_until»; next = x }
+withNext v x = record { session = v .session; «cooldown_until» = v .«cooldown_until»; next = x; tries = v .tries }
+
+abbrev pub withTries : Validation → ℕ → Validation
+withTries v x = record { session = v .session; «cooldown_until» = v .«cooldown_until»; next = v .next; tries = x }
 
 -- ---- a probe
 

@@ -89,24 +89,25 @@ pub struct Validations {
     pub phones: PhoneList,
 }
 
-// Session of validation.rs, without its code.
+// Session of validation.rs, without its code and its tries.
 pub struct Session {
     pub present: bool,
     pub number: u32,
     pub phone: ShortId,
     pub method: usize,
     pub car: [u8; 32],
-    pub tries: usize,
     pub deadline: u64,
     pub status: Status,
     pub ended: u64,
 }
 
-// State of validation.rs: the latest session, the end of the cooldown, the next session's number.
+// State of validation.rs: the latest session, the end of the cooldown, the next session's number; and the tries left, which are the gate's
+// and not a session's (W-206).
 pub struct Validation {
     pub session: Session,
     pub cooldown_until: u64,
     pub next: u32,
+    pub tries: usize,
 }
 
 // Window of can_probe.rs with the probe it was opened for; `sent` marks the frames that passed.

@@ -28,7 +28,7 @@ use Rattle.state.specs.declared.Answer.{Answer}
 use Rattle.state.specs.declared.Mark.{Mark}
 use Rattle.state.specs.declared.Said.{Said}
 use Rattle.state.specs.declared.Ended.{Ended}
-use Rattle.state.specs.Running.{isRunning, inProgress, codeInProgress, methodAt}
+use Rattle.state.specs.Running.{inProgress}
 use Rattle.state.specs.Replies.{leave, quiet, reply, notified, finish}
 use Rattle.state.specs.Checks.{unmet}
 use Rattle.state.specs.View.{Store, View, listsStay, storeIn, listsIn, view, laidStore}
@@ -47,14 +47,14 @@ use Rattle.can_probe.specs.Calls as Probe
 use Rattle.can_tx.specs.Tx as Tx
 use Rattle.session.specs.declared.Lapse.{Lapse}
 use Rattle.session.specs.declared.Lapse.the-variants.{Stays, Ends}
-use Rattle.session.specs.Session.{endedAs, triedOnce, cannotGoOn, lapseOf, placeOf}
+use Rattle.session.specs.Session.{endedAs, cannotGoOn, lapseOf, placeOf}
 use Rattle.validation.specs.Calls as Validation
 use Rattle.definition.specs.Gate.{SessionCall, ListCall, CoreCall, onCore, saying, ofSession, ofApproval, ofLists, ended, listing, said, left}
 use Rattle.definition.specs.Gate as Gate
 use Rattle.footprint.specs.Footprint.{inCore, peer, probe, coreTouches, isIn}
 use Rattle.footprint.proofs.Core.{core-keeps, core-beside}
 use Rattle.stays_in_range.specs.Stays.{Sized}
-use Rattle.stays_in_range.proofs.Parts.{Fitting, Fits, is-within, tries-set, phone-short, ended-fits, tried-fits, window-opens, Leaves, Holds, cases, if-cond, if-checked, short-id}
+use Rattle.stays_in_range.proofs.Parts.{Fitting, Fits, full-fits, fewer-fits, phone-short, window-opens, Leaves, Holds, cases, if-cond, if-checked, short-id}
 
 -- ---- lists
 
@@ -121,14 +121,11 @@ abbrev pub SaidFits : Said → Type 0
 SaidFits o = Fitting (o .core)
 
 module _ (c : Core) (h : Fitting c) where
-  -- 18 and 1 refuse what would not fit; a new session has all the tries that are set
+  -- 18 and 1 refuse what would not fit
   fit-begin : (phone : List ℕ) (at clock : ℕ) (mark : Mark) → length phone ≤ 32 → ltb at (c .methods .count) ≡ true → Holds SaidFits (Validation.begin c phone at clock mark)
   unfolding Validation.begin Validation.newSession sessionFits triesFit
   fit-begin phone at clock mark p m =
-      let t = c .settings .tries in
-      let w = is-within 1 t t (tries-set (c .settings) (h .settings)) (omega arith) in
-      let tries = cases (λ (b : Bool). b ≡ true) (codeInProgress (c .methods) (Validation.newSession c phone at clock)) (within 1 t t) true (λ e. w) (λ e. refl) in
-      let e : sessionFits (c .settings) (c .methods) (Validation.newSession c phone at clock) ≡ true = rw (id-range phone p, m) tries in
+      let e : sessionFits (c .methods) (Validation.newSession c phone at clock) ≡ true = rw (id-range phone p, m) in
       search
 
   fit-start-as : (phone : List ℕ) (at clock : ℕ) (lent gives : Bool) (k : Kind) → length phone ≤ 32 → ltb at (c .methods .count) ≡ true
@@ -147,26 +144,26 @@ module _ (c : Core) (h : Fitting c) where
       let m = lt-ltb _ _ (leb-false (c .methods .count) (placeOf (c .methods) method) (not-true _ (q .1 .0))) in
       search fit-start-as)
 
-  fit-end : (a : Answer) (status : Status) (clock : ℕ) → isRunning status ≡ false → Holds SaidFits (Validation.endSession c a status clock)
-  unfolding Validation.endSession finish endedAs
-  fit-end a status clock e = search ended-fits
+  fit-end : (a : Answer) (status : Status) (clock : ℕ) → Holds SaidFits (Validation.endSession c a status clock)
+  unfolding Validation.endSession finish endedAs sessionFits triesFit
+  fit-end a status clock = search
 
   -- a tick leaves the session, or ends it
-  by-lapse : (P : Lapse → Type 0) (clock : ℕ) → P Stays → ((status : Status) → isRunning status ≡ false → P (Ends status)) → P (lapseOf c clock)
+  by-lapse : (P : Lapse → Type 0) (clock : ℕ) → P Stays → ((status : Status) → P (Ends status)) → P (lapseOf c clock)
   unfolding lapseOf
   by-lapse P clock s e =
       let x = c .validation .session in
       cases P (inProgress x) _ _
-      (λ r. cases P (cannotGoOn c x) _ _ (λ n. e Cancelled refl) (λ n. cases P (ltb clock (x .deadline)) _ _ (λ t. s) (λ t. e TimedOut refl)))
+      (λ r. cases P (cannotGoOn c x) _ _ (λ n. e Cancelled) (λ n. cases P (ltb clock (x .deadline)) _ _ (λ t. s) (λ t. e TimedOut)))
       (λ r. s)
 
   fit-tick : (clock : ℕ) → Holds SaidFits (Validation.tick c clock)
   unfolding Validation.tick leave
-  fit-tick clock = by-lapse (λ (l : Lapse). Holds SaidFits (Validation.tickedAs c clock l)) clock (search) (λ status e. fit-end _ status clock e)
+  fit-tick clock = by-lapse (λ (l : Lapse). Holds SaidFits (Validation.tickedAs c clock l)) clock (search) (λ status. fit-end _ status clock)
 
   fit-wrong : (clock : ℕ) → Holds SaidFits (Validation.wrong c clock)
-  unfolding Validation.wrong Validation.triedCore Validation.failedCore notified reply finish triedOnce endedAs
-  fit-wrong clock = search (if-cond, ended-fits, tried-fits)
+  unfolding Validation.wrong Validation.triedCore Validation.failedCore Validation.refilled notified reply finish endedAs sessionFits triesFit
+  fit-wrong clock = search (if-cond, full-fits, fewer-fits)
 
 module _ (g : Gate) (h : Fits g) where
   unvalidated : (o : Said) → Holds SaidFits o → Holds (Leaves g ofSession) (Validation.unvalidated o)
@@ -175,16 +172,16 @@ module _ (g : Gate) (h : Fits g) where
 
   fit-ticking : (clock : ℕ) (a : Answer) (o : Ended) → Holds (Leaves g ofSession) o → Holds (Leaves g ofSession) (Validation.ticking (g .core) clock a o (lapseOf (g .core) clock))
   fit-ticking clock a o f =
-      by-lapse (g .core) (h .core) (λ (l : Lapse). Holds (Leaves g ofSession) (Validation.ticking (g .core) clock a o l)) clock f (λ status e. search (unvalidated, fit-end))
+      by-lapse (g .core) (h .core) (λ (l : Lapse). Holds (Leaves g ofSession) (Validation.ticking (g .core) clock a o l)) clock f (λ status. search (unvalidated, fit-end))
 
   -- a session that runs has a phone whose id is in range
   fit-succeed : (a : Answer) (clock : ℕ) → inProgress (g .core .validation .session) ≡ true → Holds (Leaves g ofSession) (Validation.succeed (g .core) a clock)
-  unfolding left saying view Validation.succeed Validation.succeededCore finish endedAs
+  unfolding left saying view Validation.succeed Validation.succeededCore Validation.refilled finish endedAs sessionFits triesFit
   fit-succeed a clock r =
       let s = g .core .validation .session in
-      let p = phone-short (g .core .settings) (g .core .methods) s (h .core .session) r in
+      let p = phone-short (g .core .methods) s (h .core .session) r in
       let v = validating-fits (g .phones .store) (h .store) (s .car) (idBytes (s .phone)) p in
-      search ended-fits
+      search full-fits
 
   fit-judged : (clock : ℕ) (right full : Bool) (kind : Kind) → inProgress (g .core .validation .session) ≡ true
       → Holds (Leaves g ofSession) (Validation.judgeAs (g .core) clock right full kind)
@@ -238,7 +235,7 @@ module _ (v : View) (h : Fitting (v .core)) where
   -- of what the range asks for, a call on the core may touch the peer and the probe; z tells which call it is
   untouched : {k : CoreCall} → Sized (onCore k) → isIn (inCore peer) (map inCore (coreTouches k)) ≡ false → isIn (inCore probe) (map inCore (coreTouches k)) ≡ false
       → Holds SaidFits (said (v .core) (v .lists) k)
-  unfolding methodsFit sessionFits triesFit codeInProgress methodAt
+  unfolding methodsFit sessionFits triesFit
   untouched {k} z p w =
       let b = core-beside (v .core) (v .lists) k in
       let e : said (v .core) (v .lists) k .core .peer ≡ v .core .peer = (λ i. core-keeps (v .core) (v .lists) k .core i .peer) ∙ rw p in

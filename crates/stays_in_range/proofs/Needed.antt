@@ -30,7 +30,7 @@ method = record { id = record { bytes = []; len = 1 }; kind = CodeEntry; «needs
 
 -- what these gates compute through
 unfoldable opened : Unit {0}
-unfolding Range.within Range.settingsFit Range.allOf Range.printable Range.methodFits Range.allFit Range.methodsIn Range.methodsFit Range.sessionFits Range.windowFits Range.coreFits Range.inRange view someOf idBytes idInRange idOf tooLong listOf joined idsIn listInRange padded Running.cleanMethod New.newMethods New.newCore New.madeCore Gate.says Gate.left Gate.gives Gate.step Gate.said Gate.saying Gate.served Replies.reply Replies.quiet Checks.checked Changes.policyChanged CarIdentity.confirmPlatform Policy.fingerprintConfirmed Policy.isFdBus Window.isAwake Window.isBusAwake Window.heardAt Window.probeNeeded Window.idsInRange Window.newWindow Probe.isValidProbe Probe.windowChanged Probe.openProbe Probe.heard
+unfolding Range.within Range.settingsFit Range.allOf Range.printable Range.methodFits Range.allFit Range.methodsIn Range.methodsFit Range.sessionFits Range.triesFit Range.windowFits Range.coreFits Range.inRange view someOf idBytes idInRange idOf tooLong listOf joined idsIn listInRange padded Running.cleanMethod New.newMethods New.newCore New.madeCore Gate.says Gate.left Gate.gives Gate.step Gate.said Gate.saying Gate.served Replies.reply Replies.quiet Checks.checked Changes.policyChanged CarIdentity.confirmPlatform Policy.fingerprintConfirmed Policy.isFdBus Window.isAwake Window.isBusAwake Window.heardAt Window.probeNeeded Window.idsInRange Window.newWindow Probe.isValidProbe Probe.windowChanged Probe.openProbe Probe.heard
 opened = tt
 
 methods-needed : (g : Gate) → Range.inRange (view (after g (newGateCall leastSettings [] 1))) ≡ false

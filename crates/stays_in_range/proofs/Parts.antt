@@ -1,7 +1,7 @@
 -- A gate in range, part by part; what keeps the parts of a core in range; and what holds whichever way a call goes.
 use Prim.Native.Nat.{ℕ, _-_, _≤_}
 use mathlib.Core.Path.{_≡_, refl}
-use mathlib.Core.Bool.{Bool, true, false, cond, _&&_, and-eq-true-iff, and-false}
+use mathlib.Core.Bool.{Bool, true, false, cond, and-eq-true-iff}
 use mathlib.Core.List.{List, [], _∷_}
 use native.Mathlib.Omega.{arith}
 use borrow.Author.Tests.{ltb-true, ltb-false, le-ltb, not-true}
@@ -17,12 +17,11 @@ use Rattle.state.specs.declared.Session.{Session}
 use Rattle.state.specs.declared.Core.{Core}
 use Rattle.state.specs.declared.Gate.{Gate}
 use Rattle.state.specs.declared.Answer.{Answer}
-use Rattle.state.specs.Running.{isRunning, inProgress, codeInProgress}
+use Rattle.state.specs.Running.{inProgress}
 use Rattle.state.specs.Checks.{Check, _refuses_, checked, unmet}
 use Rattle.state.specs.View.{View, view}
 use Rattle.range.specs.Range.{within, settingsFit, methodsFit, triesFit, sessionFits, windowFits, coreFits, inRange}
 use Rattle.probe_window.specs.Window.{newWindow}
-use Rattle.session.specs.Session.{triedOnce}
 use Rattle.range.proofs.Laws.{within-is}
 use Rattle.definition.specs.Gate.{Says, left}
 use Rattle.stays_in_range.specs.Stays.{InRange}
@@ -33,7 +32,8 @@ pub record Fitting (c : Core) : Type 0 where
   pub settings : settingsFit (c .settings) ≡ true
   pub methods : methodsFit (c .methods) ≡ true
   pub peer : idInRange (c .peer) ≡ true
-  pub session : sessionFits (c .settings) (c .methods) (c .validation .session) ≡ true
+  pub session : sessionFits (c .methods) (c .validation .session) ≡ true
+  pub tries : triesFit (c .settings) (c .validation) ≡ true
   pub window : windowFits (c .probe .window) ≡ true
 
 pub record Fits (g : Gate) : Type 0 where
@@ -47,14 +47,14 @@ fits g h =
     let p = simp and-eq-true-iff at h in
     let c = p .0 .0 in
     record {
-      core = record { settings = c .0 .0 .0 .0; methods = c .0 .0 .0 .1; peer = c .0 .0 .1; session = c .0 .1; window = c .1 };
+      core = record { settings = c .0 .0 .0 .0 .0; methods = c .0 .0 .0 .0 .1; peer = c .0 .0 .0 .1; session = c .0 .0 .1; tries = c .0 .1; window = c .1 };
       paired = p .0 .1;
       store = p .1;
     }
 
 pub in-range : (g : Gate) → Fits g → InRange g
 unfolding view inRange coreFits
-in-range g h = let c = h .core in rw (c .settings, c .methods, c .peer, c .session, c .window, h .paired, h .store)
+in-range g h = let c = h .core in rw (c .settings, c .methods, c .peer, c .session, c .tries, c .window, h .paired, h .store)
 
 -- ---- numbers and ids
 
@@ -62,10 +62,16 @@ pub is-within : (low high x : ℕ) → low ≤ x → x ≤ high → within low h
 unfolding within
 is-within low high x p q = rw (le-ltb x low p, le-ltb high x q)
 
--- from 1 on
-pub tries-set : (s : Settings) → settingsFit s ≡ true → 1 ≤ s .tries
+-- ---- the tries left
+
+-- full, as a new gate, a session that succeeds and one that fails leave them
+pub full-fits : (s : Settings) → settingsFit s ≡ true → within 1 (s .tries) (s .tries) ≡ true
 unfolding settingsFit
-tries-set s h = within-is 1 20 (s .tries) ((simp and-eq-true-iff at h) .0 .0 .0 .0 .1) .0
+full-fits s h = is-within 1 (s .tries) (s .tries) (within-is 1 20 (s .tries) ((simp and-eq-true-iff at h) .0 .0 .0 .0 .1) .0) (omega arith)
+
+-- one fewer, where it is not the last
+pub fewer-fits : (s : Settings) (x : ℕ) → within 1 (s .tries) x ≡ true → ltb 1 x ≡ true → within 1 (s .tries) (x - 1) ≡ true
+fewer-fits s x w e = let b = within-is 1 (s .tries) x w in is-within 1 (s .tries) (x - 1) (omega (arith, ltb-true 1 x e)) (omega arith)
 
 id-short : (p : ShortId) → idInRange p ≡ true → length (idBytes p) ≤ 32
 unfolding idInRange tooLong idBytes
@@ -73,33 +79,9 @@ id-short p h = let k : p .len ≤ 32 = ltb-false 32 (p .len) (not-true _ h) in r
 
 -- ---- the session
 
-module _ (settings : Settings) (m : Methods) (s : Session) (h : sessionFits settings m s ≡ true) where
-  pub phone-short : inProgress s ≡ true → length (idBytes (s .phone)) ≤ 32
-  unfolding sessionFits inProgress
-  phone-short r = let p = and-eq-true-iff (s .present) _ .0 r .0 in id-short (s .phone) ((simp and-eq-true-iff at (rw p at h)) .0 .0)
-
-  retried : (t : Bool) → (triesFit settings m s ≡ true → t ≡ true) → cond (s .present) (idInRange (s .phone) && ltb (s .method) (m .count) && t) true ≡ true
-  unfolding sessionFits
-  retried t k = go (s .present) (idInRange (s .phone) && ltb (s .method) (m .count)) _ k h
-    where
-      go : (p a u : Bool) → (u ≡ true → t ≡ true) → cond p (a && u) true ≡ true → cond p (a && t) true ≡ true
-      go true true u k e = k e
-      go true false u k e = e
-      go false a u k e = refl
-
-  -- the phone and the place are asked of an ended session too, its tries are not
-  pub ended-fits : (s′ : Session) → s′ .present ≡ s .present → s′ .phone ≡ s .phone → s′ .method ≡ s .method → isRunning (s′ .status) ≡ false → sessionFits settings m s′ ≡ true
-  unfolding sessionFits triesFit codeInProgress inProgress
-  ended-fits s′ p i a e = rw (p, i, a, e) (retried _ (λ t. rw (and-false (s .present))))
-
-  -- one try fewer, where it is not the last
-  pub tried-fits : ltb 1 (s .tries) ≡ true → sessionFits settings m (triedOnce s) ≡ true
-  unfolding sessionFits triesFit codeInProgress inProgress triedOnce
-  tried-fits e = retried _ (go (codeInProgress m s))
-    where
-      go : (r : Bool) → cond r (within 1 (settings .tries) (s .tries)) true ≡ true → cond r (within 1 (settings .tries) (s .tries - 1)) true ≡ true
-      go true w = let b = within-is 1 (settings .tries) (s .tries) w in is-within 1 (settings .tries) (s .tries - 1) (omega (arith, ltb-true 1 (s .tries) e)) (omega arith)
-      go false w = refl
+pub phone-short : (m : Methods) (s : Session) → sessionFits m s ≡ true → inProgress s ≡ true → length (idBytes (s .phone)) ≤ 32
+unfolding sessionFits inProgress
+phone-short m s h r = let p = and-eq-true-iff (s .present) _ .0 r .0 in id-short (s .phone) ((simp and-eq-true-iff at (rw p at h)) .0)
 
 -- ---- the window
 

@@ -19,13 +19,13 @@ use Rattle.state.specs.declared.Gate.{Gate}
 use Rattle.state.specs.declared.Said.{Said}
 use Rattle.state.specs.Running.{noMethod, cleanMethod}
 use Rattle.state.specs.View.{view}
-use Rattle.range.specs.Range.{within, allOf, methodFits, allFit, methodsIn, methodsFit, settingsFit, sessionFits, windowFits}
+use Rattle.range.specs.Range.{within, allOf, methodFits, allFit, methodsIn, methodsFit, settingsFit, sessionFits, triesFit, windowFits}
 use Rattle.range.proofs.Laws.{within-is}
 use Rattle.new_gate.specs.New.{newMethods, newCore, leastSettings, Made, madeCore}
 use Rattle.definition.specs.Gate.{Call, Says, saying, ofCore, served, says, left, gives, step, after, afterAll}
 use Rattle.definition.specs.Gate as Gate
 use Rattle.stays_in_range.specs.Stays.{IdsOf32, SizedMethods, Sized, AllSized, InRange, NewInRange, StaysInRange, AlwaysInRange}
-use Rattle.stays_in_range.proofs.Parts.{Fitting, Fits, fits, in-range, Holds, cases}
+use Rattle.stays_in_range.proofs.Parts.{Fitting, Fits, fits, in-range, full-fits, Holds, cases}
 use Rattle.stays_in_range.proofs.Calls.{empty-range, fit-listing, SaidFits, fit-start, fit-submit, fit-ended, fit-approve, fit-said}
 
 -- ---- the methods of a new gate
@@ -66,8 +66,9 @@ new-methods-fit ms count z h =
 -- ---- New gate
 
 new-core-fits : (settings : Settings) (m : Methods) → settingsFit settings ≡ true → methodsFit m ≡ true → Fitting (newCore settings m)
-unfolding newCore sessionFits windowFits
-new-core-fits settings m s h = record { settings = s; methods = h; peer = id-range [] (omega arith); session = refl; window = refl }
+unfolding newCore sessionFits triesFit windowFits
+new-core-fits settings m s h =
+    record { settings = s; methods = h; peer = id-range [] (omega arith); session = refl; tries = full-fits settings s; window = refl }
 
 made-fits : (settings : Settings) (methods : List Method) (count : ℕ) → SizedMethods methods → Fitting (madeCore settings methods count .core)
 unfolding madeCore settingsFit within methodsFit methodsIn newMethods allFit allOf

@@ -10,16 +10,12 @@ ghost use mathlib.Core.Path.{_≡_};
 ghost use Rattle.validation.specs.Calls.{failedCore, wrongAnswer, rightCode, judgeAs, submit};
 ghost use Rattle.validation.specs.Calls as Calls;
 
-// The last try: Failed, and the cooldown starts before the reply is made.
+// The last try: Failed, the tries are full and the cooldown starts, before the reply is made.
 fn failed_core(core: Core, clock: u64) -> Core
     ensures { λ r. ⌜ r ≡ failedCore core clock ⌝ }
 {
-    let mut v = core.validation;
-    let s = v.session;
-    let t = session::tried_once(s);
-    let e = session::ended_as(t, Status::Failed, clock);
+    let mut v = validation::ends::refilled(core, Status::Failed, clock);
     let until = session_times::saturating_add(clock, core.settings.cooldown);
-    v.session = e;
     v.cooldown_until = until;
     state::parts::with_validation(core, v)
 }
@@ -35,10 +31,10 @@ fn wrong_answer(core: Core, clock: u64) -> Answer
 fn wrong(core: Core, clock: u64) -> Said
     ensures { λ r. ⌜ r ≡ Calls.wrong core clock ⌝ }
 {
-    let s = core.validation.session;
-    if 1 < s.tries {
-        let t = session::tried_once(s);
-        let c = validation::ends::session_is(core, t);
+    let mut v = core.validation;
+    if 1 < v.tries {
+        v.tries -= 1;
+        let c = state::parts::with_validation(core, v);
         let answer = wrong_answer(c, clock);
         return state::replies::notified(c, answer);
     }

@@ -1,5 +1,5 @@
 -- Demand 3 is about something: every run has itself for a partner; there are two runs with different codes in which one code is judged
--- wrong and one right; a run meets the bound; and hiding hides the digits only.
+-- wrong and one right; a run meets the bound, and one with two phones the bound of W-206; and hiding hides the digits only.
 use mathlib.Core.Path.{_≡_, refl, sym, ap, _∙_}
 use mathlib.Core.Bool.{Bool, true, false, true≢false}
 use mathlib.Core.List.{List, [], _∷_, map}
@@ -15,7 +15,7 @@ use Rattle.text.specs.Text.{beginsDigit, isDigit, isDropped, isSeparator, isTex
 use Rattle.text.specs.Utf8 as Utf8
 use Rattle.state.specs.declared.Kind.the-variants.{CodeEntry}
 use Rattle.state.specs.declared.Status.{Status}
-use Rattle.state.specs.declared.Status.the-variants.{InProgress, Succeeded}
+use Rattle.state.specs.declared.Status.the-variants.{InProgress, Succeeded, Failed}
 use Rattle.state.specs.declared.Settings.{Settings}
 use Rattle.state.specs.declared.SessionReply.{SessionReply}
 use Rattle.state.specs.declared.Challenge.{Challenge}
@@ -40,7 +40,8 @@ use Rattle.answers.specs.Query.{Reply, plain}
 use Rattle.new_gate.specs.New as New
 use Rattle.definition.specs.Gate as Gate
 use Rattle.definition.specs.Gate.{Call, newGateCall, startValidation, submitValidationCode, onSession, onLists, approveCanReadWrite, onCore, ask, Given, after}
-use Rattle.two_runs.specs.Demand.{blanked, hideGate, hideChallenge, hideSignals, hideReply, seen, run, codeRuns, Alike, starts, submits, news, sessionCalls, listCalls, approvals, coreCalls, asks, TwoRuns, end, next, judgedWrong, begins, Tally, sessions, AlikeGates}
+use Rattle.two_runs.specs.Demand.{blanked, hideGate, hideChallenge, hideSignals, hideReply, seen, run, codeRuns, Alike, starts, submits, news, sessionCalls, listCalls, approvals, coreCalls, asks, TwoRuns, end, next, judgedWrong, begins, Tally, parts, sessions, AlikeGates}
+use Rattle.two_runs.specs.Refills as Refills
 use Rattle.two_runs.proofs.Digits.{same-length, same-past}
 
 -- ---- every run has itself for a partner
@@ -124,9 +125,13 @@ other-run = start 1_000 random-0007 ∷ submit 2_000 four ∷ submit 3_000 seven
 abbrev shows : Status → ℕ → ℕ → SessionReply
 shows status tries seconds = record { method = 0; kind = CodeEntry; status = status; length = 4; tries = tries; seconds = seconds; cooldown = 0 }
 
--- both runs answer: it runs; 10 with two tries left; it succeeded
+-- and the whole cooldown is ahead
+abbrev cooling : SessionReply → SessionReply
+cooling r = record { method = r .method; kind = r .kind; status = r .status; length = r .length; tries = r .tries; seconds = r .seconds; cooldown = 30 }
+
+-- both runs answer: it runs; 10 with two tries left; it succeeded, and the tries are full
 abbrev pub answers : List (Reply PhoneList)
-answers = plain (Answer.Session (shows InProgress 3 60)) ∷ plain (Answer.WrongCode (shows InProgress 2 59)) ∷ plain (Answer.Session (shows Succeeded 2 0)) ∷ []
+answers = plain (Answer.Session (shows InProgress 3 60)) ∷ plain (Answer.WrongCode (shows InProgress 2 59)) ∷ plain (Answer.Session (shows Succeeded 3 0)) ∷ []
 
 abbrev pub answersOf : List Given → List (Reply PhoneList)
 answersOf os = map (λ (o : Given). o .answer) os
@@ -140,6 +145,26 @@ three = start 1_000 random-1234 ∷ submit 3_000 seven ∷ submit 4_000 seven �
 abbrev pub tallies : List Tally
 tallies = record { tries = 3; wrong = 0 } ∷ record { tries = 3; wrong = 3 } ∷ record { tries = 3; wrong = 0 } ∷ []
 
+-- ---- the same with two phones (W-206): A types a wrong code and cancels, B types two; the last one fails B's session, and the next start
+-- shows three tries
+
+abbrev other : List ℕ
+other = 0xC3 ∷ []
+
+abbrev pub two-phones : List Call
+two-phones =
+    start 1_000 random-1234 ∷ submit 2_000 seven ∷ onSession (Gate.cancelValidation phone 3_000) ∷ startValidation other method 4_000 random-1234
+    ∷ submitValidationCode other seven 5_000 ∷ submitValidationCode other seven 6_000 ∷ start 36_000 random-1234 ∷ []
+
+-- up to the refill by Failed, and from there on
+abbrev pub refill-tallies : List Tally
+refill-tallies = record { tries = 3; wrong = 3 } ∷ record { tries = 3; wrong = 0 } ∷ []
+
+abbrev pub two-phones-answers : List (Reply PhoneList)
+two-phones-answers =
+    plain (Answer.Session (shows InProgress 3 60)) ∷ plain (Answer.WrongCode (shows InProgress 2 59)) ∷ plain Answer.Done ∷ plain (Answer.Session (shows InProgress 2 60))
+    ∷ plain (Answer.WrongCode (shows InProgress 1 59)) ∷ plain (Answer.WrongCode (cooling (shows Failed 3 0))) ∷ plain (Answer.Session (shows InProgress 3 60)) ∷ []
+
 pub record Examples : Type 0 where
   pub two : TwoRuns ready ready one-run other-run
   pub oneCode : after ready (start 1_000 random-1234) .code ≡ padded 9 0 four
@@ -149,9 +174,11 @@ pub record Examples : Type 0 where
   -- two first gates that are alike and differ
   pub firsts : AlikeGates (after ready (start 1_000 random-1234)) (after ready (start 1_000 random-0007))
   pub tallied : sessions 3 0 ready three ≡ tallies
+  pub refills : parts Refills.refills 3 0 ready two-phones ≡ refill-tallies
+  pub shared : answersOf (run ready two-phones) ≡ two-phones-answers
 
 pub examples : Examples
-unfolding padded sameBytes contains idBytes idInRange idOf idsIn joined listInRange listOf phonesOf someOf tooLong digits drawLimit drawn firstBelow group decode encode encodeAll Utf8.within isDigit isSeparator beginsDigit isDropped ungroupedFrom ungrouped isText right trim trimFront trimmed white Range.within Range.settingsFit Range.allOf Range.printable Range.methodFits Range.allFit Range.methodsIn Range.methodsFit Running.methodAt Running.cleanMethod Running.inProgress Running.codeInProgress Range.triesFit Range.sessionFits Range.windowFits Range.coreFits Range.inRange View.view Replies.reply Replies.notified Replies.finish Policy.fingerprintConfirmed Policy.isIdentified Store.isFull Times.saturatingAdd Times.secondsTo Session.secondsOf Session.replyOf Session.endedAs Session.triedOnce Session.isOf Session.lostReadWrite Session.noteAt Session.cannotGoOn Session.lapseOf Session.placeFrom Session.placeOf checked Validation.endSession Validation.runsFor Validation.startChecks Validation.newSession Validation.begin Validation.startAt Validation.start Validation.succeededCore Validation.succeed Validation.failedCore Validation.triedCore Validation.wrong Validation.rightCode Validation.judge Validation.submitted Validation.submit New.newMethods New.newCore Gate.saying Gate.served Gate.says Gate.left Gate.gives Gate.step begins judgedWrong blanked hideGate codeRuns
+unfolding padded sameBytes contains idBytes idInRange idOf idsIn joined listInRange listOf phonesOf someOf tooLong digits drawLimit drawn firstBelow group decode encode encodeAll Utf8.within isText right trim trimFront trimmed white Range.within Range.settingsFit Range.allOf Range.printable Range.methodFits Range.allFit Range.methodsIn Range.methodsFit Running.methodAt Running.cleanMethod Running.inProgress Running.codeInProgress Range.triesFit Range.sessionFits Range.windowFits Range.coreFits Range.inRange View.view Replies.reply Replies.notified Replies.finish Policy.fingerprintConfirmed Policy.isIdentified Store.isFull Times.saturatingAdd Times.secondsTo Session.secondsOf Session.replyOf Session.endedAs Session.isOf Session.lostReadWrite Session.noteAt Session.cannotGoOn Session.lapseOf Session.placeFrom Session.placeOf checked Validation.endSession Validation.runsFor Validation.startChecks Validation.newSession Validation.begin Validation.startAt Validation.start Validation.refilled Validation.succeededCore Validation.succeed Validation.failedCore Validation.triedCore Validation.wrong Validation.rightCode Validation.judge Validation.submitted Validation.submit New.newMethods New.newCore Gate.saying Gate.served Gate.says Gate.left Gate.gives Gate.step begins judgedWrong blanked hideGate codeRuns Refills.refills Validation.cancel Gate.ended isDigit isSeparator beginsDigit isDropped ungroupedFrom ungrouped
 examples = record {
   two =
       next (starts phone method 1_000 random-1234 random-0007 (λ d. (refl, refl)))
@@ -163,6 +190,8 @@ examples = record {
   otherAnswers = refl;
   firsts = (refl, λ r. absurd (true≢false r));
   tallied = refl;
+  refills = refl;
+  shared = refl;
 }
 
 -- ---- hiding hides the digits only

@@ -118,7 +118,7 @@ module _ (g : Gate) (other : List ℕ) (e : blanked (g .core .settings .digits) 
       twin-served _ _ (λ f. twin-said (drawn r n .code) (drawn s n .code) (blanked-drawn n r ∙ sym (blanked-drawn n s)) _ _
       (started (g .core) phone method clock _ _ .fit) (start-by (g .core) phone method clock (λ d. a (passes _ _ f d))) false stays)
   twin (submits phone clock t u a b) =
-      twin-served _ _ (λ f. twin-ended _ _ (submitted-as (g .core) (λ r. tries-fit here f r .0) clock phone _ _ _ .fit)
+      twin-served _ _ (λ f. twin-ended _ _ (submitted-as (g .core) (tries-fit here f .0) clock phone _ _ _ .fit)
       (submit-by (g .core) phone clock (fullFor here) (isText t) (λ z j. b z (passes _ _ f j))
       ∙ λ i. submit (g .core) phone clock (a f i) (isRight (recodedGate g other) u) (fullFor here)))
   twin (news settings methods count) = record { look = refl; stay = λ held r. refl }

@@ -16,16 +16,17 @@ use Rattle.state.specs.declared.Answer.the-variants as Answer
 use Rattle.state.specs.declared.Mark.the-variants.{Blank, Fresh}
 use Rattle.state.specs.declared.Said.{Said}
 use Rattle.state.specs.declared.Ended.{Ended}
-use Rattle.state.specs.Answers.{number}
+use Rattle.state.specs.Answers.{number, values}
 use Rattle.state.specs.Running.{isCode, inProgress, codeInProgress, methodAt}
 use Rattle.state.specs.Replies.{leave, reply, notified, finish, challengeChanged}
 use Rattle.state.specs.Checks.{Check, checked, unmet}
 use Rattle.session.specs.declared.Lapse.{Lapse}
 use Rattle.session.specs.declared.Lapse.the-variants.{Stays, Ends}
-use Rattle.session.specs.Session.{endedAs, triedOnce, isOf, placeOf, lapseOf}
-use Rattle.validation.specs.Calls.{startChecks, newSession, challengeFor, begin, startAs, startAt, start, draws, endSession, tickedAs, tick, ticking, unvalidated, runsFor, succeed, failedCore, triedCore, wrong, rightCode, judge, judgeAs, submitted, submit}
+use Rattle.session.specs.Session.{replyOf, endedAs, isOf, placeOf, lapseOf}
+use Rattle.validation.specs.Calls.{startChecks, newSession, challengeFor, begin, startAs, startAt, start, draws, endSession, tickedAs, tick, ticking, unvalidated, runsFor, succeed, refilled, failedCore, triedCore, wrong, rightCode, judge, judgeAs, submitted, submit}
 use Rattle.footprint.proofs.Keeps.{either, each-check}
 use Rattle.two_runs.specs.Demand.{codeRuns}
+use Rattle.two_runs.specs.Refills.{submitRefills}
 use Rattle.two_runs.proofs.Turns.{Fit, Turn, triesLeft, turn-leave, turn-notified, turn-ends, turn-end, turn-succeed, lapse-as}
 
 -- a CodeEntry session runs
@@ -35,22 +36,23 @@ runs-now c p k = rw (p, k)
 
 -- ---- start
 
--- a refusal keeps the tries
+-- a refusal keeps the session's tries, and every start keeps the gate's
 pub record Started (c : Core) (o : Said) : Type 0 where
   pub fit : Fit c o
   pub idle : eqb (number (o .answer)) 0 ≡ false → 0 + triesLeft (o .core) ≤ triesLeft c
+  pub kept : 0 + o .core .validation .tries ≤ c .validation .tries
 
 refused : (c : Core) (a : Answer) → Started c (leave c a)
-refused c a = let t = turn-leave c a in record { fit = t .fit; idle = λ e. t .paid }
+refused c a = let t = turn-leave {f = false} c a in record { fit = t .fit; idle = λ e. t .paid; kept = t .kept refl }
 
 module _ (c : Core) (phone : List ℕ) (at clock : ℕ) where
   begun-action : Started c (begin c phone at clock Blank)
   unfolding begin
-  begun-action = record { fit = record { settings = refl; shows = tt; code = tt }; idle = λ e. absurd (true≢false e) }
+  begun-action = record { fit = record { settings = refl; shows = tt; code = tt }; idle = λ e. absurd (true≢false e); kept = omega arith }
 
   begun-code : methodAt (c .methods) at .kind ≡ CodeEntry → Started c (begin c phone at clock Fresh)
   unfolding begin newSession challengeChanged challengeFor codeRuns codeInProgress inProgress
-  begun-code k = record { fit = record { settings = refl; shows = rw k; code = rw k }; idle = λ e. absurd (true≢false e) }
+  begun-code k = record { fit = record { settings = refl; shows = rw k; code = rw k }; idle = λ e. absurd (true≢false e); kept = omega arith }
 
   started-as : (lent gives : Bool) (k : Kind) → methodAt (c .methods) at .kind ≡ k → Started c (startAs c phone at clock lent gives k)
   started-as lent gives InCarAction k = begun-action
@@ -65,16 +67,15 @@ started c phone method clock lent gives =
 
 -- a code judged wrong costs a try
 abbrev pub Judged : Core → Ended → Type 0
-Judged c e = Turn c (cond (eqb (number (e .said .answer)) 10) 1 0) (e .said)
+Judged c e = let a = e .said .answer in Turn c (cond (eqb (number a) 10) 1 0) (submitRefills (number a) (values a)) (e .said)
 
-module _ (c : Core) (low : codeRuns c ≡ true → 1 ≤ c .validation .session .tries) (clock : ℕ) where
+module _ (c : Core) (low : 1 ≤ c .validation .tries) (clock : ℕ) where
   wrong-as : codeRuns c ≡ true → Judged c (unvalidated (wrong c clock))
-  unfolding wrong notified reply finish triedCore triedOnce failedCore endedAs codeRuns codeInProgress inProgress
+  unfolding wrong notified reply finish triedCore failedCore refilled endedAs replyOf codeRuns codeInProgress inProgress
   wrong-as runs =
-      let l = low runs in
-      either (λ (o : Said). Judged c (unvalidated o)) (ltb 1 (c .validation .session .tries)) _ _
-      (record { fit = record { settings = refl; shows = tt; code = refl }; paid = rw runs (omega arith) })
-      (turn-ends c _ 1 _ _ refl refl (rw runs l))
+      either (λ (o : Said). Judged c (unvalidated o)) (ltb 1 (c .validation .tries)) _ _
+      (record { fit = record { settings = refl; shows = tt; code = refl }; paid = rw runs (omega arith); kept = λ z. omega arith })
+      (turn-ends c _ 1 _ _ refl refl (rw runs low) (λ z. absurd (true≢false z)))
 
   judged-as : (right full : Bool) (k : Kind) → inProgress (c .validation .session) ≡ true → methodAt (c .methods) (c .validation .session .method) .kind ≡ k
       → Judged c (judgeAs c clock right full k)

@@ -1,7 +1,7 @@
 -- What an operation may do to a core: its settings stay, digits are marked only where they are hidden, and each code judged wrong
 -- costs one of the tries.
-use mathlib.Core.Path.{_≡_, refl, sym}
-use mathlib.Core.Bool.{Bool, true, false, cond, _&&_, true≢false, and-false}
+use mathlib.Core.Path.{_≡_, refl}
+use mathlib.Core.Bool.{Bool, true, false, cond, true≢false, and-false, and-eq-true-iff}
 use Prim.Native.Nat.{ℕ, _+_, _≤_, zero-le}
 use native.Mathlib.Omega.{arith}
 use lib.Dec.{ltb}
@@ -18,22 +18,24 @@ use Rattle.state.specs.declared.Mark.{Mark}
 use Rattle.state.specs.declared.Mark.the-variants.{Blank, Kept, Fresh}
 use Rattle.state.specs.declared.Said.{Said}
 use Rattle.state.specs.declared.Ended.{Ended}
+use Rattle.state.specs.Answers.{values}
 use Rattle.state.specs.Running.{isRunning, inProgress, codeInProgress, methodAt}
 use Rattle.state.specs.Replies.{nothingRaised, phoneAccessChanged, leave, reply, notified, finish}
 use Rattle.state.specs.View.{Lists, View}
 use Rattle.range.proofs.Laws.{within-is}
-use Rattle.range.specs.Range.{coreFits, triesFit, sessionFits, inRange}
+use Rattle.range.specs.Range.{coreFits, triesFit, inRange}
 use Rattle.can_access.specs.Approval.{approve}
 use Rattle.session.specs.declared.Lapse.{Lapse}
 use Rattle.session.specs.declared.Lapse.the-variants.{Stays, Ends}
 use Rattle.session.specs.Session.{endedAs, lapseOf, cannotGoOn}
-use Rattle.validation.specs.Calls.{endSession, tickedAs, tick, ticking, succeed, succeededCore, cancel, isAction, completed, complete}
+use Rattle.validation.specs.Calls.{endSession, tickedAs, tick, ticking, refilled, succeed, succeededCore, cancel, isAction, completed, complete}
 use Rattle.definition.specs.Gate as Gate
 use Rattle.definition.specs.Gate.{SessionCall, CoreCall, ended, said}
 use Rattle.footprint.proofs.Keeps.{either, each-check}
 use Rattle.footprint.proofs.Core.{Beside, beside, core-beside}
 use Rattle.footprint.proofs.Sessions.{approve-keeps}
 use Rattle.two_runs.specs.Demand.{codeRuns}
+use Rattle.two_runs.specs.Refills.{sessionRefills}
 
 -- ---- where digits may stand
 
@@ -56,72 +58,51 @@ pub record Fit (c : Core) (o : Said) : Type 0 where
 
 -- ---- tries
 
--- the tries that are left to the running CodeEntry session; 0 where none runs
+-- the gate's tries left, while a CodeEntry session runs; 0 where none runs
 abbrev pub triesLeft : Core → ℕ
-triesLeft c = cond (codeRuns c) (c .validation .session .tries) 0
+triesLeft c = cond (codeRuns c) (c .validation .tries) 0
 
--- an operation that judges `wrong` codes wrong
-pub record Turn (c : Core) (wrong : ℕ) (o : Said) : Type 0 where
+-- an operation that judges `wrong` codes wrong: it takes them from what the session has left, and unless it refills the tries from what
+-- the gate has left
+pub record Turn (c : Core) (wrong : ℕ) (refills : Bool) (o : Said) : Type 0 where
   pub fit : Fit c o
   pub paid : wrong + triesLeft (o .core) ≤ triesLeft c
+  pub kept : refills ≡ false → wrong + o .core .validation .tries ≤ c .validation .tries
 
--- ---- what a gate in range has left
+-- ---- what a gate in range has left: from 1 to the set number of tries
 
-and-left : (x y : Bool) → (x && y) ≡ true → x ≡ true
-and-left true y e = refl
-and-left false y e = e
-
-and-right : (x y : Bool) → (x && y) ≡ true → y ≡ true
-and-right true y e = e
-and-right false y e = absurd (true≢false (sym e))
-
-if-so : (b x : Bool) → b ≡ true → cond b x true ≡ true → x ≡ true
-if-so true x t e = e
-if-so false x t e = absurd (true≢false (sym t))
-
-present-now : (s : Session) (m : Methods) → codeInProgress m s ≡ true → s .present ≡ true
-unfolding codeInProgress inProgress
-present-now s m r = search (and-left, and-right)
-
--- from 1 to the set number of tries, while a CodeEntry session runs
-pub tries-fit : (v : View) → inRange v ≡ true → codeRuns (v .core) ≡ true
-    → (1 ≤ v .core .validation .session .tries) × (v .core .validation .session .tries ≤ v .core .settings .tries)
-unfolding inRange coreFits sessionFits triesFit codeRuns
-tries-fit v f r =
-    let c = v .core in
-    let s = c .validation .session in
-    let fits : sessionFits (c .settings) (c .methods) s ≡ true = search (and-left, and-right) in
-    let there = if-so (s .present) _ (present-now s (c .methods) r) fits in
-    let tried : triesFit (c .settings) (c .methods) s ≡ true = search (and-left, and-right) in
-    within-is _ _ _ (if-so (codeInProgress (c .methods) s) _ r tried)
+pub tries-fit : (v : View) → inRange v ≡ true → (1 ≤ v .core .validation .tries) × (v .core .validation .tries ≤ v .core .settings .tries)
+unfolding inRange coreFits triesFit
+tries-fit v f = within-is _ _ _ ((simp and-eq-true-iff at f) .0 .0 .0 .1)
 
 -- ---- an operation that keeps the settings, the methods and the session
 
-pub turn-beside : (c : Core) (o : Said) → Beside c o → Turn c 0 o
+pub turn-beside : {f : Bool} (c : Core) (o : Said) → Beside c o → Turn c 0 f o
 unfolding codeRuns codeInProgress methodAt
 turn-beside c o b =
     let r : codeRuns (o .core) ≡ codeRuns c = rw (b .methods, b .validation) in
     record {
       fit = record { settings = b .settings; shows = rw (b .shows) tt; code = rw (b .code) r };
       paid = rw (r, b .validation) (omega arith);
+      kept = λ z. rw (b .validation) (omega arith);
     }
 
-pub turn-core : (c : Core) (l : Lists) (k : CoreCall) → Turn c 0 (said c l k)
+pub turn-core : (c : Core) (l : Lists) (k : CoreCall) → Turn c 0 false (said c l k)
 turn-core c l k = turn-beside c (said c l k) (core-beside c l k)
 
-pub turn-approve : (c : Core) (other : Bool) → Turn c 0 (approve c other .said)
+pub turn-approve : (c : Core) (other : Bool) → Turn c 0 false (approve c other .said)
 unfolding someOf
 turn-approve c other = turn-beside c _ (beside _ c _ (approve-keeps c other) refl refl refl refl)
 
-turn-reply : (c : Core) (a : Answer) (r : Raised) → Turn c 0 (reply c a r)
+turn-reply : {f : Bool} (c : Core) (a : Answer) (r : Raised) → Turn c 0 f (reply c a r)
 unfolding reply
 turn-reply c a r = turn-beside c _ (record { settings = refl; methods = refl; count = refl; validation = refl; shows = refl; code = refl })
 
-pub turn-leave : (c : Core) (a : Answer) → Turn c 0 (leave c a)
+pub turn-leave : {f : Bool} (c : Core) (a : Answer) → Turn c 0 f (leave c a)
 unfolding leave reply
 turn-leave c a = turn-reply c a nothingRaised
 
-pub turn-notified : (c : Core) (a : Answer) → Turn c 0 (notified c a)
+pub turn-notified : {f : Bool} (c : Core) (a : Answer) → Turn c 0 f (notified c a)
 unfolding notified
 turn-notified c a = turn-reply c a phoneAccessChanged
 
@@ -131,20 +112,20 @@ ended-stops : (s : Session) (m : Methods) → isRunning (s .status) ≡ false �
 unfolding codeInProgress inProgress
 ended-stops s m e = rw (e, and-false)
 
-pub turn-ends : (c c′ : Core) (w : ℕ) (a : Answer) (r : Raised) → c′ .settings ≡ c .settings → isRunning (c′ .validation .session .status) ≡ false
-    → w ≤ triesLeft c → Turn c w (finish c′ a r)
+pub turn-ends : {f : Bool} (c c′ : Core) (w : ℕ) (a : Answer) (r : Raised) → c′ .settings ≡ c .settings → isRunning (c′ .validation .session .status) ≡ false
+    → w ≤ triesLeft c → (f ≡ false → w + c′ .validation .tries ≤ c .validation .tries) → Turn c w f (finish c′ a r)
 unfolding finish codeRuns
-turn-ends c c′ w a r p e h =
-    record { fit = record { settings = p; shows = tt; code = tt }; paid = rw (ended-stops (c′ .validation .session) (c′ .methods) e) (omega arith) }
+turn-ends c c′ w a r p e h k =
+    record { fit = record { settings = p; shows = tt; code = tt }; paid = rw (ended-stops (c′ .validation .session) (c′ .methods) e) (omega arith); kept = k }
 
 -- a tick ends a session as Cancelled or TimedOut
-pub turn-end : (c : Core) (a : Answer) (status : Status) (clock : ℕ) → isRunning status ≡ false → Turn c 0 (endSession c a status clock)
+pub turn-end : {f : Bool} (c : Core) (a : Answer) (status : Status) (clock : ℕ) → isRunning status ≡ false → Turn c 0 f (endSession c a status clock)
 unfolding endSession endedAs
-turn-end c a status clock e = turn-ends c _ 0 a _ refl e zero-le
+turn-end c a status clock e = turn-ends c _ 0 a _ refl e zero-le (λ z. omega arith)
 
-pub turn-succeed : (c : Core) (a : Answer) (clock : ℕ) → Turn c 0 (succeed c a clock .said)
-unfolding succeed succeededCore endedAs
-turn-succeed c a clock = turn-ends c _ 0 a _ refl refl zero-le
+pub turn-succeed : (c : Core) (a : Answer) (clock : ℕ) → Turn c 0 true (succeed c a clock .said)
+unfolding succeed succeededCore refilled endedAs
+turn-succeed c a clock = turn-ends c _ 0 a _ refl refl zero-le (λ z. absurd (true≢false z))
 
 -- ---- a session's calls
 
@@ -155,12 +136,16 @@ lapse-as P c clock stays ends =
     let s = c .validation .session in
     either P (inProgress s) _ _ (either P (cannotGoOn c s) _ _ (ends Cancelled refl) (either P (ltb clock (s .deadline)) _ _ stays (ends TimedOut refl))) stays
 
-pub turn-session : (c : Core) (full : Bool) (k : SessionCall) → Turn c 0 (ended c full k .said)
-unfolding ended cancel tick complete completed
-turn-session c full (Gate.cancelValidation phone clock) = each-check (λ o. Turn c 0 o) (leave c) _ _ (turn-leave c) (turn-end c _ Cancelled clock refl)
-turn-session c full (Gate.tickValidation clock) = lapse-as (λ l. Turn c 0 (tickedAs c clock l)) c clock (turn-leave c _) (λ status e. turn-end c _ status clock e)
+-- a call of a session refills by its answer
+abbrev TurnBy : Core → SessionCall → Said → Type 0
+TurnBy c k o = Turn c 0 (sessionRefills k (values (o .answer))) o
+
+pub turn-session : (c : Core) (full : Bool) (k : SessionCall) → TurnBy c k (ended c full k .said)
+unfolding ended cancel tick complete completed leave succeed finish endSession
+turn-session c full (Gate.cancelValidation phone clock) = each-check (λ o. Turn c 0 false o) (leave c) _ _ (turn-leave c) (turn-end c _ Cancelled clock refl)
+turn-session c full (Gate.tickValidation clock) = lapse-as (λ l. Turn c 0 false (tickedAs c clock l)) c clock (turn-leave c _) (λ status e. turn-end c _ status clock e)
 turn-session c full (Gate.completeValidationAction number clock) =
-    lapse-as (λ l. Turn c 0 (ticking c clock No (completed c number clock full) l .said)) c clock
-    (either (λ (x : Ended). Turn c 0 (x .said)) (isAction c number) _ _
-    (either (λ (x : Ended). Turn c 0 (x .said)) full _ _ (turn-leave c _) (turn-succeed c _ clock)) (turn-leave c _))
+    let P : Ended → Type 0 = λ x. TurnBy c (Gate.completeValidationAction number clock) (x .said) in
+    lapse-as (λ l. P (ticking c clock No (completed c number clock full) l)) c clock
+    (either P (isAction c number) _ _ (either P full _ _ (turn-leave c _) (turn-succeed c _ clock)) (turn-leave c _))
     (λ status e. turn-end c _ status clock e)

@@ -142,18 +142,22 @@ begins approveCanReadWrite a = false
 begins (onCore k) a = false
 begins (ask q) a = false
 
--- of one session: the tries set when it began, and the codes judged wrong in it
+-- of a part of a run: the tries set when it began, and the codes judged wrong in it
 pub record Tally : Type 0 where
   pub tries : ℕ
   pub wrong : ℕ
 
--- the sessions of a run, in order; `tries` and `count` are those of the session so far
-abbrev pub sessions : ℕ → ℕ → Gate → List Call → List Tally
-sessions tries count g [] = record { tries = tries; wrong = count } ∷ []
-sessions tries count g (c ∷ cs) = elim (begins c (step g c .answer)) [
-  | true ↦ record { tries = tries; wrong = count } ∷ sessions (after g c .core .settings .tries) 0 (after g c) cs
-  | false ↦ sessions tries (count + judgedWrong c (step g c .answer)) (after g c) cs
+-- a run in parts, cut behind each call of which `cuts` is true; `tries` and `count` are those of the part so far
+abbrev pub parts : (Call → Reply PhoneList → Bool) → ℕ → ℕ → Gate → List Call → List Tally
+parts cuts tries count g [] = record { tries = tries; wrong = count } ∷ []
+parts cuts tries count g (c ∷ cs) = elim (cuts c (step g c .answer)) [
+  | true ↦ record { tries = tries; wrong = count + judgedWrong c (step g c .answer) } ∷ parts cuts (after g c .core .settings .tries) 0 (after g c) cs
+  | false ↦ parts cuts tries (count + judgedWrong c (step g c .answer)) (after g c) cs
 ]
+
+-- the sessions of a run, in order; a start itself judges no code
+abbrev pub sessions : ℕ → ℕ → Gate → List Call → List Tally
+sessions = parts begins
 
 abbrev pub Within : Tally → Type 0
 Within t = t .wrong ≤ t .tries

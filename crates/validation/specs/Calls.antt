@@ -3,7 +3,7 @@
 -- complete are told whether this car's list is full without the session's phone.
 use mathlib.Core.Bool.{Bool, true, false, cond, not, _&&_}
 use mathlib.Core.List.{List, [], _∷_}
-use Prim.Native.Nat.{ℕ}
+use Prim.Native.Nat.{ℕ, _-_}
 use lib.Dec.{eqb, ltb, leb}
 use lib.ListN.{length, replicate}
 use Rattle.phones.specs.Phones.{idOf}
@@ -12,6 +12,7 @@ use Rattle.state.specs.declared.Kind.the-variants.{CodeEntry, InCarAction}
 use Rattle.state.specs.declared.Status.{Status}
 use Rattle.state.specs.declared.Status.the-variants.{InProgress, Succeeded, Failed, Cancelled}
 use Rattle.state.specs.declared.Session.{Session}
+use Rattle.state.specs.declared.Validation.{Validation}
 use Rattle.state.specs.declared.Core.{Core}
 use Rattle.state.specs.declared.Answer.{Answer}
 use Rattle.state.specs.declared.Answer.the-variants as Answer
@@ -21,7 +22,7 @@ use Rattle.state.specs.declared.Mark.{Mark}
 use Rattle.state.specs.declared.Mark.the-variants.{Blank, Fresh}
 use Rattle.state.specs.declared.Said.{Said}
 use Rattle.state.specs.declared.Ended.{Ended}
-use Rattle.state.specs.Parts.{withValidation, withSession, withCooldown, withNext}
+use Rattle.state.specs.Parts.{withValidation, withSession, withCooldown, withNext, withTries}
 use Rattle.state.specs.Running.{isCode, methodAt, inProgress}
 use Rattle.state.specs.Replies.{noChallenge, challengeChanged, leave, notified, finish}
 use Rattle.state.specs.Checks.{Check, _refuses_, checked, unmet}
@@ -29,7 +30,7 @@ use Rattle.policy.specs.Policy.{fingerprintConfirmed}
 use Rattle.session.specs.declared.Lapse.{Lapse}
 use Rattle.session.specs.declared.Lapse.the-variants.{Stays, Ends}
 use Rattle.session_times.specs.Times.{saturatingAdd, secondsTo, nextNumber}
-use Rattle.session.specs.Session.{replyOf, endedAs, triedOnce, isOf, lostReadWrite, noteAt, lapseOf, placeOf}
+use Rattle.session.specs.Session.{replyOf, endedAs, isOf, lostReadWrite, noteAt, lapseOf, placeOf}
 
 -- ---- start
 
@@ -44,6 +45,7 @@ startChecks c phone at clock =
     (lostReadWrite c (methodAt (c .methods) at) refuses MethodUnavailable) ∷  -- 5
     (not (noteAt (c .methods .available) at) refuses MethodNotAvailableNow) ∷ []  -- 6
 
+-- the tries left are those of the gate, and a start leaves them (W-206)
 unfoldable pub newSession : Core → List ℕ → ℕ → ℕ → Session
 newSession c phone at clock = record {
   present = true;
@@ -51,7 +53,6 @@ newSession c phone at clock = record {
   phone = idOf phone;
   method = at;
   car = c .policy .identity .car .digest;
-  tries = c .settings .tries;
   deadline = saturatingAdd clock (c .settings .session);
   status = InProgress;
   ended = 0;
@@ -134,24 +135,26 @@ ticking c clock a o (Ends status) = unvalidated (endSession c a status clock)
 unfoldable pub runsFor : Session → List ℕ → Bool
 runsFor s phone = inProgress s && isOf s phone
 
+-- the session ends so that the tries left become full (W-206): it succeeds, or it fails
+unfoldable pub refilled : Core → Status → ℕ → Validation
+refilled c status clock = withTries (withSession (c .validation) (endedAs (c .validation .session) status clock)) (c .settings .tries)
+
 -- succeed, and the session's phone is to be validated for its car
 unfoldable pub succeededCore : Core → ℕ → Core
-succeededCore c clock = sessionIs c (endedAs (c .validation .session) Succeeded clock)
+succeededCore c clock = withValidation c (refilled c Succeeded clock)
 
 unfoldable pub succeed : Core → Answer → ℕ → Ended
 succeed c a clock = record { said = finish (succeededCore c clock) a (challengeChanged noChallenge); validates = true }
 
 -- ---- submit
 
--- the last try: Failed, and the cooldown starts before the reply is made
+-- the last try: Failed, the tries are full and the cooldown starts, all before the reply is made
 unfoldable pub failedCore : Core → ℕ → Core
-failedCore c clock =
-    withValidation c
-    (withCooldown (withSession (c .validation) (endedAs (triedOnce (c .validation .session)) Failed clock))
-    (saturatingAdd clock (c .settings .cooldown)))
+failedCore c clock = withValidation c (withCooldown (refilled c Failed clock) (saturatingAdd clock (c .settings .cooldown)))
 
+-- one try fewer
 unfoldable pub triedCore : Core → Core
-triedCore c = sessionIs c (triedOnce (c .validation .session))
+triedCore c = withValidation c (withTries (c .validation) (c .validation .tries - 1))
 
 abbrev pub sessionAnswer : Core → ℕ → Answer
 sessionAnswer c clock = Answer.Session (replyOf c (c .validation .session) clock)
@@ -161,7 +164,7 @@ wrongAnswer c clock = WrongCode (replyOf c (c .validation .session) clock)
 
 unfoldable pub wrong : Core → ℕ → Said
 wrong c clock =
-    cond (ltb 1 (c .validation .session .tries))
+    cond (ltb 1 (c .validation .tries))
     (notified (triedCore c) (wrongAnswer (triedCore c) clock))
     (finish (failedCore c clock) (wrongAnswer (failedCore c clock) clock) (challengeChanged noChallenge))
 

@@ -5,6 +5,7 @@ use state::Ended;
 use state::Said;
 use state::Session;
 use state::Status;
+use state::Validation;
 ghost use mathlib.Core.Path.{_≡_};
 ghost use mathlib.Core.Bool.{true};
 ghost use Rattle.state.specs.Replies.{noChallenge, challengeChanged, finish};
@@ -48,13 +49,24 @@ pub fn runs_for(s: Session, phone: &[u8]) -> bool
     false
 }
 
+// The session ends, and the tries left are full.
+pub fn refilled(core: Core, status: Status, clock: u64) -> Validation
+    ensures { λ r. ⌜ r ≡ Calls.refilled core status clock ⌝ }
+{
+    let mut v = core.validation;
+    let s = v.session;
+    let e = session::ended_as(s, status, clock);
+    v.session = e;
+    v.tries = core.settings.tries;
+    v
+}
+
 // The session ended, but for whom it validates.
 pub fn succeeded_core(core: Core, clock: u64) -> Core
     ensures { λ r. ⌜ r ≡ succeededCore core clock ⌝ }
 {
-    let s = core.validation.session;
-    let e = session::ended_as(s, Status::Succeeded, clock);
-    session_is(core, e)
+    let v = refilled(core, Status::Succeeded, clock);
+    state::parts::with_validation(core, v)
 }
 
 // The session of `after` succeeded, and its phone is to be validated for its car.

@@ -49,6 +49,15 @@ pub mod oracle {
         STATE.lock(|s| s.borrow_mut().session = session);
     }
 
+    /// The tries of the stored session, if there is one.
+    pub fn set_attempts_left(attempts: u32) {
+        STATE.lock(|s| {
+            if let Some(session) = &mut s.borrow_mut().session {
+                session.attempts_left = attempts;
+            }
+        });
+    }
+
     pub fn methods() -> &'static [ValidationMethod] {
         STATE.lock(|s| s.borrow().methods)
     }

@@ -3,6 +3,7 @@
 
 mod clock;
 mod codes;
+mod guesses;
 mod lists;
 mod plans;
 mod pools;

@@ -55,9 +55,16 @@ impl Generator {
 
     /// Starts a session with a method of this kind. Returns its phone, if it runs.
     pub(super) fn begin(&mut self, kind: MethodKind) -> Option<Bytes> {
-        let method = self.method_of(kind)?;
-        self.prepare(&method);
         let phone = self.short_phone();
+        self.begin_as(phone.clone(), kind).then_some(phone)
+    }
+
+    /// Starts a session of this phone. Returns whether it runs.
+    pub(super) fn begin_as(&mut self, phone: Bytes, kind: MethodKind) -> bool {
+        let Some(method) = self.method_of(kind) else {
+            return false;
+        };
+        self.prepare(&method);
         if self.random.flip() {
             self.emit(Call::Pair {
                 phone: phone.clone(),
@@ -80,10 +87,10 @@ impl Generator {
             now,
             random,
         });
-        self.runs(&phone).then_some(phone)
+        self.runs(&phone)
     }
 
-    fn runs(&self, phone: &Bytes) -> bool {
+    pub(super) fn runs(&self, phone: &Bytes) -> bool {
         validation::session().is_some_and(|session| {
             session.status == PhoneValidationStatus::InProgress && session.phone == *phone
         })
@@ -117,9 +124,10 @@ impl Generator {
         };
         self.noise();
         match self.random.below(20) {
-            0..=5 => self.type_right(&phone),
-            6..=9 => self.fail(&phone),
-            10..=11 => self.type_wrong_then_right(&phone),
+            0..=3 => self.type_right(&phone),
+            4..=6 => self.fail(&phone),
+            7..=10 => self.guess_on(phone),
+            11 => self.type_wrong_then_right(&phone),
             12..=13 => self.type_at_the_end(&phone),
             14 => self.start_again(&phone),
             15..=16 => self.lose(&phone),
@@ -132,7 +140,7 @@ impl Generator {
         self.look_at_session();
     }
 
-    fn type_right(&mut self, phone: &Bytes) {
+    pub(super) fn type_right(&mut self, phone: &Bytes) {
         let code = self.right_code();
         let now = self.now;
         self.emit(Call::Submit {
@@ -142,7 +150,7 @@ impl Generator {
         });
     }
 
-    fn type_wrong(&mut self, phone: &Bytes) {
+    pub(super) fn type_wrong(&mut self, phone: &Bytes) {
         let code = self.wrong_code();
         let now = self.now;
         self.emit(Call::Submit {
@@ -243,7 +251,7 @@ impl Generator {
     }
 
     /// Something that a session does not survive, and a call that ticks.
-    fn lose(&mut self, phone: &Bytes) {
+    pub(super) fn lose(&mut self, phone: &Bytes) {
         let place = validation::session().and_then(|session| {
             let methods = validation::methods();
             methods.iter().position(|m| m.id == session.method.id)
@@ -291,7 +299,7 @@ impl Generator {
     }
 
     /// Queries about the session, and about what its phone may do.
-    fn look_at_session(&mut self) {
+    pub(super) fn look_at_session(&mut self) {
         let own = validation::session().map_or(Bytes::new(), |session| session.phone);
         for _ in 0..self.random.below(4) {
             let any = self.phone();

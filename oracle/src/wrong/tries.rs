@@ -1,12 +1,16 @@
 //! Wrong rules about what a typed code leads to: tries, cooldown, full lists.
 
 use super::{Wrong, reply, run, wrong};
+use crate::added::is_running;
 use crate::answer::{Answer, Refusal, Reply};
 use crate::calls::Call;
 use crate::gate::{Gate, refused};
+use crate::items::MethodKind;
 use core_interface::MAX_CODE_ATTEMPTS;
+use core_interface::oracle::validation::SessionView;
 use core_interface::oracle::{phone_trust, validation};
-use core_interface::proto::PhoneValidationStatus::{Failed, InProgress, Succeeded};
+use core_interface::proto::PhoneValidationStatus;
+use core_interface::proto::PhoneValidationStatus::{Cancelled, Failed, InProgress, TimedOut};
 
 pub const RULES: &[Wrong] = &[
     wrong(
@@ -19,10 +23,47 @@ pub const RULES: &[Wrong] = &[
         "the last try's reply does not show the new cooldown",
         cooldown_after_reply,
     ),
+    wrong("start-refills", "a start refills the tries", start_refills)
+        .same_if(MAX_CODE_ATTEMPTS == 1),
     wrong(
-        "success-refills",
-        "a success shows full tries",
-        success_refills,
+        "other-phone-refills",
+        "a start of another phone refills the tries",
+        other_phone_refills,
+    )
+    .same_if(MAX_CODE_ATTEMPTS == 1),
+    wrong(
+        "cancel-refills",
+        "a session that is cancelled refills the tries",
+        cancel_refills,
+    )
+    .same_if(MAX_CODE_ATTEMPTS == 1),
+    wrong(
+        "time-out-refills",
+        "a session that times out refills the tries",
+        time_out_refills,
+    )
+    .same_if(MAX_CODE_ATTEMPTS == 1),
+    wrong(
+        "failed-not-refilled",
+        "a session that fails leaves no try",
+        failed_not_refilled,
+    ),
+    wrong(
+        "success-not-refilled",
+        "a right code does not refill the tries",
+        success_not_refilled,
+    )
+    .same_if(MAX_CODE_ATTEMPTS == 1),
+    wrong(
+        "action-not-refilled",
+        "a completed action does not refill the tries",
+        action_not_refilled,
+    )
+    .same_if(MAX_CODE_ATTEMPTS == 1),
+    wrong(
+        "full-list-refills",
+        "a right code that a full list refuses refills the tries",
+        full_list_refills,
     )
     .same_if(MAX_CODE_ATTEMPTS == 1),
     wrong(
@@ -58,18 +99,103 @@ pub const RULES: &[Wrong] = &[
     ),
 ];
 
-pub fn refill_tries(gate: &mut Gate, call: &Call) -> Reply {
-    let mut reply = run(gate, call);
-    if reply.answer == Answer::Refused(Refusal::WrongCode)
-        && let Some(shown) = &mut reply.values.session
-        && shown.status == InProgress
+/// Gives the gate other tries, behind a call; its reply shows them.
+fn set_tries(gate: &mut Gate, reply: &mut Reply, tries: u32) {
+    gate.tries = tries;
+    validation::set_attempts_left(tries);
+    if let Some(shown) = &mut reply.values.session
+        && shown.kind == MethodKind::Code
     {
-        shown.tries = MAX_CODE_ATTEMPTS;
-        let mut session = validation::session().expect("it is shown");
-        session.attempts_left = MAX_CODE_ATTEMPTS;
-        validation::set_session(Some(session));
+        shown.tries = tries;
+    }
+}
+
+/// Runs a call and refills the tries behind it, if `refills` says so of the session before, the call and its answer.
+fn refill_if(
+    gate: &mut Gate,
+    call: &Call,
+    refills: fn(Option<SessionView>, &Call, Answer) -> bool,
+) -> Reply {
+    let before = validation::session();
+    let mut reply = run(gate, call);
+    if refills(before, call, reply.answer) {
+        set_tries(gate, &mut reply, MAX_CODE_ATTEMPTS);
     }
     reply
+}
+
+/// Runs a call and takes its refill back, if it has this answer.
+fn not_refilled(gate: &mut Gate, call: &Call, answer: Answer) -> Reply {
+    let before = gate.tries;
+    let mut reply = run(gate, call);
+    if reply.answer == answer {
+        set_tries(gate, &mut reply, before);
+    }
+    reply
+}
+
+pub fn refill_tries(gate: &mut Gate, call: &Call) -> Reply {
+    refill_if(gate, call, |_, _, answer| {
+        answer == Answer::Refused(Refusal::WrongCode) && is_running()
+    })
+}
+
+fn start_refills(gate: &mut Gate, call: &Call) -> Reply {
+    refill_if(gate, call, |_, call, answer| {
+        matches!(call, Call::Start { .. }) && answer == Answer::Ok
+    })
+}
+
+fn other_phone_refills(gate: &mut Gate, call: &Call) -> Reply {
+    refill_if(gate, call, |before, call, answer| {
+        let Call::Start { phone, .. } = call else {
+            return false;
+        };
+        answer == Answer::Ok && before.is_some_and(|session| session.phone != *phone)
+    })
+}
+
+/// Whether the session that ran before has ended so.
+fn ended_as(before: Option<SessionView>, status: PhoneValidationStatus) -> bool {
+    before.is_some_and(|session| session.status == InProgress)
+        && validation::session().is_some_and(|session| session.status == status)
+}
+
+fn cancel_refills(gate: &mut Gate, call: &Call) -> Reply {
+    refill_if(gate, call, |before, _, _| ended_as(before, Cancelled))
+}
+
+fn time_out_refills(gate: &mut Gate, call: &Call) -> Reply {
+    refill_if(gate, call, |before, _, _| ended_as(before, TimedOut))
+}
+
+fn failed_not_refilled(gate: &mut Gate, call: &Call) -> Reply {
+    let before = validation::session();
+    let mut reply = run(gate, call);
+    if ended_as(before, Failed) {
+        set_tries(gate, &mut reply, 0);
+    }
+    reply
+}
+
+fn success_not_refilled(gate: &mut Gate, call: &Call) -> Reply {
+    match call {
+        Call::Submit { .. } => not_refilled(gate, call, Answer::Ok),
+        _ => run(gate, call),
+    }
+}
+
+fn action_not_refilled(gate: &mut Gate, call: &Call) -> Reply {
+    match call {
+        Call::Complete { .. } => not_refilled(gate, call, Answer::Yes),
+        _ => run(gate, call),
+    }
+}
+
+fn full_list_refills(gate: &mut Gate, call: &Call) -> Reply {
+    refill_if(gate, call, |_, call, answer| {
+        matches!(call, Call::Submit { .. }) && answer == Answer::Refused(Refusal::ListFull)
+    })
 }
 
 /// What is left of a cooldown, in seconds.
@@ -94,17 +220,6 @@ fn cooldown_after_reply(gate: &mut Gate, call: &Call) -> Reply {
         && shown.status == Failed
     {
         shown.cooldown = left(until, *now);
-    }
-    reply
-}
-
-fn success_refills(gate: &mut Gate, call: &Call) -> Reply {
-    let mut reply = run(gate, call);
-    if let Call::Submit { .. } = call
-        && let Some(shown) = &mut reply.values.session
-        && shown.status == Succeeded
-    {
-        shown.tries = MAX_CODE_ATTEMPTS;
     }
     reply
 }
@@ -138,6 +253,7 @@ fn refuse_success(gate: &mut Gate, call: &Call, full: fn(&Listed) -> bool) -> Re
     if !succeeded || !full(&listed) {
         return reply;
     }
+    gate.tries = session.attempts_left;
     validation::set_session(Some(session));
     validation::set_challenge_quietly(challenge);
     phone_trust::set_validations(Some((car, phones)));

@@ -10,17 +10,11 @@ enum-told-2 c = c .match .keys2
 enum-known-a : tie.Need-enum-known-a
 enum-known-a c = c .match .keys3
 
-reply-requires : tie.Need-reply-requires
-reply-requires c κs = tt
-
 add-requires : tie.Need-add-requires
 add-requires c κs = tt
 
 enum-known-a-2 : tie.Need-enum-known-a-2
 enum-known-a-2 c = c .match .keys4
-
-reply-requires-2 : tie.Need-reply-requires-2
-reply-requires-2 c κs = tt
 
 add-requires-2 : tie.Need-add-requires-2
 add-requires-2 c κs = tt
@@ -119,10 +113,10 @@ returns-2 : tie.Need-returns-2
 returns-2 c = rw (c .enum-told2 .given .1)
 
 returns-3 : tie.Need-returns-3
-returns-3 c = rw (c .before .before .before .a .given .1, ← c .before .reply .ensures, ← c .add .ensures)
+returns-3 c = rw (c .before .before .a .given .1, ← c .add .ensures)
 
 returns-4 : tie.Need-returns-4
-returns-4 c = rw (c .before .before .before .a2 .given .1, ← c .before .reply2 .ensures, ← c .add2 .ensures)
+returns-4 c = rw (c .before .before .a2 .given .1, ← c .add2 .ensures)
 
 returns-5 : tie.Need-returns-5
 returns-5 c = rw (c .enum-told3 .given .1)
@@ -218,10 +212,8 @@ answer-seen-spec =
     enum-told
     enum-told-2
     enum-known-a
-    reply-requires
     add-requires
     enum-known-a-2
-    reply-requires-2
     add-requires-2
     enum-told-3
     enum-told-4
