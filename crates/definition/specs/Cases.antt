@@ -1,5 +1,5 @@
--- The cases P1 to P13 of document 01, in its order and words, P5 as W-202 of document 02 has it: what the gate gives, beside what they
--- say. proofs/Table.antt proves them.
+-- The cases P1 to P13 of document 01, in its order and words; P5, P7 and P9 as W-202, W-206 and W-201 of document 02 have them: what the
+-- gate gives, beside what they say. proofs/Table.antt proves them.
 use mathlib.Core.Path.{_≡_}
 use mathlib.Core.Bool.{Bool, true, false}
 use mathlib.Core.List.{List, [], _∷_, _++_, map}
