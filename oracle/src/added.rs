@@ -16,7 +16,7 @@ use core_interface::{CanFrame, CanTxFrame, IdentityProbe, ValidationChallenge, V
 use embedded_can::{ExtendedId, Id, StandardId};
 use std::panic::{AssertUnwindSafe, catch_unwind, resume_unwind};
 
-const MAX_ID_BYTES: usize = 32;
+pub const MAX_ID_BYTES: usize = 32;
 pub const MAX_PHONES: usize = 32;
 const MAX_FINGERPRINT_BYTES: usize = 4096;
 
@@ -34,7 +34,6 @@ impl Gate {
             Call::Submit { phone, code, now } => submit(phone, code, *now),
             Call::Complete { session, now } => complete(*session, *now),
             Call::Pair { phone } => pair(phone),
-            Call::Restore { record } => restore(record),
             Call::Fingerprint { fingerprint } => confirm_fingerprint(fingerprint),
             Call::SetPeer { phone } => set_peer(phone.as_deref()),
             Call::OpenProbe { bus, now, frame } => self.open_probe(*bus, *now, &frame.0),
@@ -190,7 +189,7 @@ fn refusal_values(error: ValidationError, data: Data) -> Values {
 
 /// W-202: bytes 32 and 45, each alone between two digits, are dropped. Trimming first would give the same, since no
 /// digit is trimmed.
-fn ungrouped(typed: &str) -> String {
+pub(crate) fn ungrouped(typed: &str) -> String {
     let bytes = typed.as_bytes();
     let is_digit = |at: usize| bytes.get(at).is_some_and(|byte| (48..=57).contains(byte));
     let mut kept = Vec::new();
@@ -276,19 +275,6 @@ fn set_peer(phone: Option<&[u8]>) -> Outcome {
         return refused(Refusal::IdTooLong);
     }
     core_interface::set_ble_peer(phone);
-    plain(Answer::Ok)
-}
-
-/// 22 is the source's false. 23 empties a store that the source took although it is too large.
-fn restore(record: &[u8]) -> Outcome {
-    if !core_interface::restore_phone_validations(record) {
-        return refused(Refusal::Malformed);
-    }
-    let (_, phones) = phone_trust::validations().expect("the record was taken");
-    if phones.len() > MAX_PHONES || phones.iter().any(|phone| phone.len() > MAX_ID_BYTES) {
-        phone_trust::set_validations(None);
-        return refused(Refusal::TooLarge);
-    }
     plain(Answer::Ok)
 }
 

@@ -11,7 +11,7 @@ use core_interface::{
 };
 use std::fmt;
 
-/// The refusals of document 01, with its numbers.
+/// The refusals of documents 01 and 02, with their numbers.
 #[derive(Clone, Copy, Debug, PartialEq, Eq)]
 pub enum Refusal {
     UnknownMethod = 1,
@@ -39,6 +39,7 @@ pub enum Refusal {
     TooLarge = 23,
     BadFrame = 24,
     BadSettings = 25,
+    CarTwice = 28,
 }
 
 impl From<ValidationError> for Refusal {

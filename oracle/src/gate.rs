@@ -7,6 +7,7 @@ use crate::calls::Call;
 use crate::host::{self, Settings};
 use crate::items::MethodKind;
 use crate::marks::Marks;
+use crate::shelf::Shelf;
 use core_interface::ProbeWindow;
 use core_interface::oracle::{can_probe, validation};
 use std::future::Future;
@@ -22,6 +23,10 @@ pub struct Gate {
     pub(crate) marks: Marks,
     /// The tries left, which W-206 gives the gate.
     pub(crate) tries: u32,
+    /// The store, which W-207 gives up to four cars.
+    pub shelf: Shelf,
+    /// Without a shelf: the source keeps its one car, and records go through their version 1 form.
+    pub(crate) bare: bool,
 }
 
 /// What a call gives but for its signals.
@@ -59,9 +64,19 @@ impl Gate {
             window: None,
             marks: Marks::default(),
             tries: Settings::least().tries,
+            shelf: Shelf::default(),
+            bare: false,
         };
         gate.make_new(Settings::least());
         gate
+    }
+
+    /// The least gate without a shelf.
+    pub fn least_bare() -> Self {
+        Self {
+            bare: true,
+            ..Self::least()
+        }
     }
 
     /// Runs a call and records its signals.
@@ -71,14 +86,14 @@ impl Gate {
         Reply {
             answer,
             values,
-            signals: Signals::take(),
+            signals: self.take_signals(),
         }
     }
 
     /// Runs a call; its signals are left in the source's channels. A reply of a code entry session shows the gate's tries.
     pub fn run(&mut self, call: &Call) -> Outcome {
         let ran = is_running();
-        let (answer, mut values) = self.run_source(call);
+        let (answer, mut values) = self.run_with_lists(call);
         self.keep_tries(ran);
         if let Some(shown) = &mut values.session
             && shown.kind == MethodKind::Code
@@ -88,7 +103,7 @@ impl Gate {
         (answer, values)
     }
 
-    fn run_source(&mut self, call: &Call) -> Outcome {
+    pub(crate) fn run_source(&mut self, call: &Call) -> Outcome {
         if let Some(outcome) = self.run_added(call) {
             return outcome;
         }
@@ -166,6 +181,7 @@ impl Gate {
         host::declare_methods(&settings.methods);
         self.marks = Marks::default();
         self.tries = settings.tries;
+        self.shelf = Shelf::default();
         self.settings = settings;
     }
 }

@@ -70,10 +70,6 @@ impl Gate {
                 None => plain(Answer::None),
             },
             Call::Challenge {} => challenge(),
-            Call::Encode {} => {
-                let record = core_interface::encode_phone_validations();
-                found(format!("record={}", to_hex(&record)))
-            }
             _ => panic!("{} is no query", call.name()),
         }
     }

@@ -1,15 +1,21 @@
 //! Runs a script line by line.
 
 use crate::calls::{Call, LineError, parse};
+use crate::cars_noted::{noted, of_state};
 use crate::gate::Gate;
 use crate::host::Settings;
 use crate::wrong::{self, Wrong};
 use std::io::{self, BufRead, Write};
 
+#[derive(Clone, Copy, Default)]
 pub struct Options {
     /// A state line after every call.
     pub states: bool,
     pub wrong: Option<Wrong>,
+    /// Without a shelf: the source keeps its one car.
+    pub bare: bool,
+    /// Behind each line what the call did to the cars of the store.
+    pub cars: bool,
 }
 
 pub enum Stopped {
@@ -34,7 +40,11 @@ const NOT_THE_SOURCE: &[u8] = b"# not the source:";
 const GIVES: &[u8] = b"#: ";
 
 pub fn replay(script: impl BufRead, mut out: impl Write, options: &Options) -> Result<(), Stopped> {
-    let mut gate = Gate::least();
+    let mut gate = if options.bare {
+        Gate::least_bare()
+    } else {
+        Gate::least()
+    };
     let mut passes_over = false;
     let mut awaits: Option<(usize, &'static str)> = None;
     // A line ends with byte 10 alone, and the last one also with the script.
@@ -52,17 +62,20 @@ pub fn replay(script: impl BufRead, mut out: impl Write, options: &Options) -> R
             Ok(Some(call)) if passes_over && !matches!(call, Call::New { .. }) => {
                 awaits = Some((number, call.name()));
             }
-            Ok(Some(Call::State {})) => print_state(&mut out, number, &gate)?,
+            Ok(Some(Call::State {})) => print_state(&mut out, number, &gate, options)?,
             Ok(Some(call)) => {
                 passes_over = false;
                 check_supported(&call, number)?;
                 if options.wrong.is_none() {
                     check_awake(&gate, &call, number)?;
                 }
+                let before = gate.shelf.clone();
                 let reply = wrong::perform(&mut gate, &call, options.wrong);
-                writeln!(out, "line={number} call={} {reply}", call.name())?;
+                write!(out, "line={number} call={} {reply}", call.name())?;
+                let items = || noted(&call, &reply, &before, &gate.shelf);
+                end_line(&mut out, options.cars, items)?;
                 if options.states {
-                    print_state(&mut out, number, &gate)?;
+                    print_state(&mut out, number, &gate, options)?;
                 }
             }
         }
@@ -101,8 +114,24 @@ fn read(line: &[u8]) -> Result<Option<Call>, LineError> {
     parse(&line)
 }
 
-fn print_state(out: &mut impl Write, number: usize, gate: &Gate) -> io::Result<()> {
-    writeln!(out, "line={number} call=state {}", gate.show_state())
+fn print_state(
+    out: &mut impl Write,
+    number: usize,
+    gate: &Gate,
+    options: &Options,
+) -> io::Result<()> {
+    write!(out, "line={number} call=state {}", gate.show_state())?;
+    end_line(out, options.cars, || of_state(&gate.shelf))
+}
+
+/// The end of a line, with further items if they are asked for.
+fn end_line(out: &mut impl Write, asked: bool, items: impl Fn() -> Vec<String>) -> io::Result<()> {
+    if asked {
+        for item in items() {
+            write!(out, " {item}")?;
+        }
+    }
+    writeln!(out)
 }
 
 /// The first five settings of a gate in range are those of the build.

@@ -4,7 +4,8 @@ use crate::answer::status_name;
 use crate::gate::Gate;
 use crate::hex::{self, to_hex};
 use crate::host;
-use crate::items::yes_no;
+use crate::items::{Bytes, yes_no};
+use crate::shelf::Listed;
 use core_interface::oracle::can_probe::WindowView;
 use core_interface::oracle::validation::SessionView;
 use core_interface::oracle::{can, can_access, can_probe, pairing, phone_trust, validation};
@@ -16,7 +17,7 @@ pub fn show_statics() -> String {
     let marks = can_probe::marks().map(|mark| mark.to_string());
     let parts = [
         show_access(),
-        show_phones(),
+        show_phones(phone_trust::validations().as_slice()),
         show_session(),
         show_probe(&marks.join(",")),
     ];
@@ -24,12 +25,12 @@ pub fn show_statics() -> String {
 }
 
 impl Gate {
-    /// The state line; its marks are W-201's, its tries W-206's.
+    /// The state line; its marks are W-201's, its tries W-206's, its cars W-207's.
     pub fn show_state(&self) -> String {
         let parts = [
             self.show_settings(),
             show_access(),
-            show_phones(),
+            show_phones(&self.cars()),
             show_session(),
             format!("tries_left={}", self.tries),
             show_probe(&self.marks.show()),
@@ -90,20 +91,31 @@ fn show_access() -> String {
     )
 }
 
-fn show_phones() -> String {
-    let (car, validated) = match phone_trust::validations() {
-        Some((car, phones)) => (Some(car), phones),
-        None => (None, Vec::new()),
-    };
+/// Each car in order, or `none`.
+fn show_phones(cars: &[Listed]) -> String {
+    let mut validated: Vec<String> = cars
+        .iter()
+        .map(|(car, phones)| show_listed(Some(*car), phones))
+        .collect();
+    if validated.is_empty() {
+        validated.push(show_listed(None, &[]));
+    }
     let peer = match phone_trust::ble_peer() {
         Some(peer) => to_hex(&peer),
         None => "none".to_string(),
     };
     format!(
-        "paired={} validated_car={} validated={} peer={peer}",
+        "paired={} {} peer={peer}",
         hex::list(&pairing::paired()),
+        validated.join(" ")
+    )
+}
+
+fn show_listed(car: Option<CarDigest>, phones: &[Bytes]) -> String {
+    format!(
+        "validated_car={} validated={}",
         show_car(car),
-        hex::list(&validated)
+        hex::list(phones)
     )
 }
 

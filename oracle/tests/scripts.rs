@@ -18,7 +18,7 @@ fn lines_are_read_back() {
     let options = Options {
         counters: true,
         states: true,
-        texts: false,
+        ..Options::default()
     };
     let with_texts = Options {
         texts: true,
@@ -47,10 +47,7 @@ fn cases_print_what_was_checked() {
             continue;
         }
         let mut printed = Vec::new();
-        let options = replay::Options {
-            states: false,
-            wrong: None,
-        };
+        let options = replay::Options::default();
         assert!(replay::replay(text.as_bytes(), &mut printed, &options).is_ok());
         let checked = fs::read(path.with_extension("out")).expect("what was checked");
         assert_eq!(

@@ -14,8 +14,7 @@ fn new_gates_have_the_starting_statics() {
 
     let options = Options {
         counters: true,
-        states: false,
-        texts: false,
+        ..Options::default()
     };
     let mut news = 0;
     let lines = script(7, 5_000, options).lines;

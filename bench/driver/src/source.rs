@@ -69,7 +69,7 @@ fn byte(bytes: &[u8], at: u64) -> u32 {
 fn raised(i: u64) -> u32 {
     let stored = core_interface::try_take_phone_validations_to_store();
     let challenge = validation::take_challenge_sent();
-    let record = stored.as_ref().map_or(0, |bytes| byte(bytes, i % 1090));
+    let record = stored.as_ref().map_or(0, |bytes| byte(bytes, 1 + i % 1089));
     let code = challenge.as_ref().and_then(|c| c.as_ref()?.code);
     let digit = code.map_or(0, |code| byte(&code, i % 9));
     bit(can_access::take_access_changed(), 1)
@@ -168,6 +168,6 @@ pub fn encodes(work: &Work, n: u64) -> u32 {
     ready(work);
     (0..n).fold(0, |sum: u32, i| {
         let record = black_box(core_interface::encode_phone_validations());
-        sum.wrapping_add(byte(&record, i % 1090))
+        sum.wrapping_add(byte(&record, 1 + i % 1089))
     })
 }

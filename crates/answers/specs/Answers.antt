@@ -21,7 +21,8 @@ use Rattle.state.specs.declared.Answer.the-variants.{Done, Nothing, BadSettings
 use Rattle.state.specs.Running.{isRunning, inProgress, codeInProgress, noMethod, cleanMethod}
 use Rattle.state.specs.View.{Lists, View}
 use Rattle.range.specs.Range.{inRange}
-use Rattle.state.specs.Replies.{noRecord, noChallenge}
+use Rattle.saved_record.specs.SavedRecord.{noRecord}
+use Rattle.state.specs.Replies.{noChallenge}
 use Rattle.policy.specs.declared.Approval.{Approval}
 use Rattle.policy.specs.declared.Approval.the-variants.{NotApproved}
 use Rattle.policy.specs.Policy.{fingerprintConfirmed, devLock, devUnlocked, isReadOnly, approvalOf}

@@ -9,7 +9,9 @@ use Rattle.frames.specs.declared.Id.the-variants.{Standard}
 use Rattle.frames.specs.declared.TxClass.{TxClass}
 use Rattle.frames.specs.declared.TxClass.the-variants.{Platform, Command}
 use Rattle.phones.specs.declared.MadeId.{MadeId}
-use Rattle.phones.specs.Phones.{madeId}
+use Rattle.phones.specs.Phones.{madeId, listOf}
+use Rattle.saved_record.specs.Store.{carsOf}
+use Rattle.validations.specs.Store.{phonesFor}
 use Rattle.state.specs.declared.Kind.the-variants.{CodeEntry}
 use Rattle.state.specs.declared.Car.{Car}
 use Rattle.state.specs.declared.Policy.{Policy}
@@ -42,11 +44,11 @@ settings = record { digits = 4; tries = 3; session = 60000; cooldown = 0; keep =
 abbrev pub methodOf : MadeId → Method
 methodOf made = record { id = made .id; kind = CodeEntry; «needs_approval» = true }
 
--- a gate with that policy, the validated phones paired
+-- a gate with that policy, the phones validated for this car paired
 abbrev pub opened : Gate → List ℕ → Gate
 opened g digest = record {
   core = withPolicy (g .core) (writable digest);
-  phones = record { paired = g .phones .store .phones; store = g .phones .store };
+  phones = record { paired = listOf (phonesFor digest (carsOf (g .phones .store))); store = g .phones .store };
   code = g .code;
 }
 

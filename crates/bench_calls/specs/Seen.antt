@@ -6,7 +6,7 @@ use Rattle.saved_record.specs.declared.SavedRecord.{SavedRecord}
 use Rattle.state.specs.declared.Challenge.{Challenge}
 use Rattle.state.specs.declared.Signals.{Signals}
 use Rattle.state.specs.declared.Answer.{Answer}
-use Rattle.state.specs.declared.Answer.the-variants.{Done, Yes, No, Nothing, Count, Number, Reason, Session, UnknownMethod, CarNotIdentified, CoolingDown, OtherPhoneSession, MethodUnavailable, MethodNotAvailableNow, NoRandomSource, NoSession, NotCodeEntry, WrongCode, NoDevLock, NotNeeded, Logging, BusAsleep, Busy, NoAttemptsLeft, Invalid, IdTooLong, RandomSpent, NotText, ListFull, Malformed, TooLarge, BadFrame, BadSettings}
+use Rattle.state.specs.declared.Answer.the-variants.{Done, Yes, No, Nothing, Count, Number, Reason, Session, UnknownMethod, CarNotIdentified, CoolingDown, OtherPhoneSession, MethodUnavailable, MethodNotAvailableNow, NoRandomSource, NoSession, NotCodeEntry, WrongCode, NoDevLock, NotNeeded, Logging, BusAsleep, Busy, NoAttemptsLeft, Invalid, IdTooLong, RandomSpent, NotText, ListFull, Malformed, TooLarge, BadFrame, BadSettings, CarTwice}
 
 -- a sum of 32 bits, which wraps
 abbrev pub add : ℕ → ℕ → ℕ
@@ -16,9 +16,9 @@ add x y = (x + y) % 2 ^ 32
 abbrev pub bit : Bool → ℕ → ℕ
 bit b weight = cond b weight 0
 
--- another byte of a record, and another digit, at each turn
+-- another byte of a car's part, behind the version and the count of cars, and another digit, at each turn
 abbrev pub recordByte : SavedRecord → ℕ → ℕ
-recordByte r i = getD (r .bytes) (i % 1090) 0
+recordByte r i = getD (r .bytes) (i % 1089 + 2) 0
 
 abbrev pub digit : Challenge → ℕ → ℕ
 digit c i = getD (c .code) (i % 9) 0
@@ -65,3 +65,4 @@ answerSeen Malformed = 0
 answerSeen TooLarge = 0
 answerSeen BadFrame = 0
 answerSeen BadSettings = 0
+answerSeen CarTwice = 0

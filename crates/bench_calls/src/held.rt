@@ -82,7 +82,8 @@ fn open(g: Gate, digest: [u8; 32]) -> Gate
     let c = g.core;
     let core = state::parts::with_policy(c, p);
     let store = g.phones.store;
-    let paired = store.phones;
+    let validated = validations::phones_for(store, digest);
+    let paired = phones::canonical(validated);
     let phones = Phones { paired, store };
     let code = g.code;
     Gate { core, phones, code }

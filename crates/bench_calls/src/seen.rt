@@ -29,13 +29,13 @@ fn bit(b: bool, weight: u32) -> u32
     if b { weight } else { 0 }
 }
 
-// Another byte of a record at each turn.
+// Another byte of a car's part at each turn: the version and the count of cars, which the source's record does not have, are left out.
 pub fn record_byte(r: SavedRecord, i: u64) -> u32
     ensures { λ b. ⌜ b ≡ recordByte r i ⌝ }
 {
-    let at = (i % 1090) as usize;
+    let at = (i % 1089) as usize;
     let bytes = r.bytes;
-    wide(bytes[at])
+    wide(bytes[at + 2])
 }
 
 // Another digit at each turn.
@@ -102,6 +102,7 @@ fn answer_seen(a: Answer) -> u32
         Answer::TooLarge => 0,
         Answer::BadFrame => 0,
         Answer::BadSettings => 0,
+        Answer::CarTwice => 0,
     }
 }
 

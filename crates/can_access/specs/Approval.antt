@@ -1,9 +1,8 @@
 -- The calls on the approval (can_access.rs). Each raises the read-only state as it is afterwards.
-use mathlib.Core.Bool.{Bool, false, cond, not}
+use mathlib.Core.Bool.{cond, not}
 use mathlib.Core.List.{[], _∷_}
 use Rattle.state.specs.declared.Car.{Car}
 use Rattle.state.specs.declared.Core.{Core}
-use Rattle.state.specs.declared.Answer.{Answer}
 use Rattle.state.specs.declared.Answer.the-variants.{Done, CarNotIdentified}
 use Rattle.state.specs.declared.Said.{Said}
 use Rattle.state.specs.Parts.{withPolicy}
@@ -11,28 +10,23 @@ use Rattle.state.specs.Replies.{noCar, approvalChanged, leave, reply}
 use Rattle.state.specs.Checks.{_refuses_, checked}
 use Rattle.policy.specs.Policy.{fingerprintConfirmed, isReadOnly}
 use Rattle.policy_changes.specs.Changes.{withAccess, withApproval, policyChanged}
-use Rattle.can_access.specs.declared.Approved.{Approved}
 
 -- ---- approval
 
--- a refusal empties nothing
-abbrev pub refused : Core → Answer → Approved
-refused c a = record { said = leave c a; empties = false }
-
--- approve_can_read_write; `other`: the stored validations are of another car, and then on_car_approved empties the store
-unfoldable pub approve : Core → Bool → Approved
-approve c other =
+-- approve_can_read_write: "no longer clears the others" (W-207), so the store is not looked at
+unfoldable pub approve : Core → Said
+approve c =
     let car = c .policy .identity .car in
     let p = withAccess (c .policy) (withApproval (c .policy .access) car) in
-    checked (refused c)
+    checked (leave c)
     ((not (fingerprintConfirmed (c .policy .identity)) refuses CarNotIdentified) ∷ [])  -- 2
-    (record { said = reply (withPolicy c p) Done (approvalChanged car (isReadOnly p) other); empties = other })
+    (reply (withPolicy c p) Done (approvalChanged car (isReadOnly p)))
 
 -- revoke_can_read_write_approval
 unfoldable pub revokeApproval : Core → Said
 revokeApproval c =
     let p = withAccess (c .policy) (withApproval (c .policy .access) noCar) in
-    reply (withPolicy c p) Done (approvalChanged noCar (isReadOnly p) false)
+    reply (withPolicy c p) Done (approvalChanged noCar (isReadOnly p))
 
 unfoldable pub knownOrNone : Car → Car
 knownOrNone car = cond (car .known) car noCar

@@ -7,15 +7,8 @@ ghost use mathlib.Core.Path.{_≡_};
 ghost use Rattle.can_access.specs.Approval.{restoreApproval, revokeApproval};
 ghost use Rattle.can_access.specs.Approval as Approval;
 
-// What an approval says: the lists stay, or the store is emptied.
-pub struct Approved {
-    pub said: Said,
-    pub empties: bool,
-}
-
-// `other`: the stored validations are of another car.
-pub fn approve_can_read_write(core: Core, other: bool) -> Approved
-    ensures { λ r. ⌜ r ≡ Approval.approve core other ⌝ }
+pub fn approve_can_read_write(core: Core) -> Said
+    ensures { λ r. ⌜ r ≡ Approval.approve core ⌝ }
 {
     let policy = core.policy;
     let identity = policy.identity;
@@ -25,19 +18,11 @@ pub fn approve_can_read_write(core: Core, other: bool) -> Approved
         access.approval = car;
         let p = policy_changes::with_access(policy, access);
         let value = policy::is_can_read_only(p);
-        let raised = state::replies::approval_changed(car, value, other);
+        let raised = state::replies::approval_changed(car, value);
         let c = state::parts::with_policy(core, p);
-        let said = state::replies::reply(c, Answer::Done, raised);
-        return Approved {
-            said,
-            empties: other,
-        };
+        return state::replies::reply(c, Answer::Done, raised);
     }
-    let said = state::replies::leave(core, Answer::CarNotIdentified);
-    Approved {
-        said,
-        empties: false,
-    }
+    state::replies::leave(core, Answer::CarNotIdentified)
 }
 
 pub fn revoke_can_read_write_approval(core: Core) -> Said
@@ -49,7 +34,7 @@ pub fn revoke_can_read_write_approval(core: Core) -> Said
     access.approval = none;
     let p = policy_changes::with_access(policy, access);
     let readonly = policy::is_can_read_only(p);
-    let raised = state::replies::approval_changed(none, readonly, false);
+    let raised = state::replies::approval_changed(none, readonly);
     let c = state::parts::with_policy(core, p);
     state::replies::reply(c, Answer::Done, raised)
 }

@@ -1,19 +1,20 @@
--- P1 to P13 of document 01: the rows of specs/Cases.antt, proved as one theorem. They hold by computation alone.
+-- P1 to P13 of document 01 and the cases of W-207: the rows of specs/Cases.antt, proved as one theorem. They hold by computation alone.
 use mathlib.Core.Path.{refl}
 use mathlib.Core.List.{List, _++_, map-append}
 use Prim.Native.Nat.{ℕ}
 use Rattle.arrays.specs.Arrays.{padded, sameBytes}
-use Rattle.phones.specs.Ids.{someOf, joined, roomFor, pushed}
+use Rattle.phones.specs.Ids.{someOf, allOf, kept, joined, contains, removeAll, roomFor, pushed}
 use Rattle.phones.specs.Phones.{idBytes, idInRange, idOf, idsIn, listInRange, listOf, phonesOf, tooLong}
 use Rattle.frames.specs.Frames.{isEntry}
 use Rattle.draw.specs.Draw.{digits, drawLimit, drawn, firstBelow, group}
 use Rattle.text.specs.Utf8.{begins3, begins4, decode, decode2, decode3, decode4, encode, encodeAll, scalar, scalars, utf8-2, utf8-3, utf8-4, within}
 use Rattle.text.specs.Text.{beginsDigit, isDigit, isDropped, isSeparator, isText, right, trim, trimFront, trimmed, ungrouped, ungroupedFrom, white}
 use Rattle.phone_fields.specs.PhoneFields.{anyLong, before, field, fields, overLimits, readFields}
-use Rattle.saved_record.specs.SavedRecord.{decoded, decodedBody, encoded, judged, nothingAfter, readCounted, readPhones, refusal, restored}
+use Rattle.saved_record.specs.SavedRecord.{carPart, carParts, encoded, ofCar, readCounted, readAfter, readCar, readOn, readCars, readTwo, readVersion, nothingAfter, hasCar, twice, over, judged, decoded}
+use Rattle.saved_record.specs.Store.{carOf, laidCar, emptyCar, carsOf, storeOf}
 use Rattle.decimal.specs.Decimal.{digitsUpTo, decimalOf}
 use Rattle.hex.specs.Hex.{digit, hexOf}
-use Rattle.listing.specs.Listing.{line, phoneLines, acceptedLines, refusedLines, linesOf, lines}
+use Rattle.listing.specs.Listing.{line, phoneLines, carLines, eachCar, acceptedLines, refusedLines, linesOf, lines}
 use Rattle.state.specs.Running as Running
 use Rattle.state.specs.Checks as Checks
 use Rattle.state.specs.View as View
@@ -21,6 +22,7 @@ use Rattle.range.specs.Range as Range
 use Rattle.state.specs.Replies as Replies
 use Rattle.policy.specs.Policy as Policy
 use Rattle.policy_changes.specs.Changes as Changes
+use Rattle.can_access.specs.Approval as Access
 use Rattle.car_identity.specs.CarIdentity as CarIdentity
 use Rattle.validations.specs.Store as Store
 use Rattle.probe_window.specs.Window as Window
@@ -33,7 +35,7 @@ use Rattle.answers.specs.Answers as Answers
 use Rattle.answers.specs.Query as Query
 use Rattle.new_gate.specs.New as New
 use Rattle.definition.specs.Gate as Gate
-use Rattle.definition.specs.Cases.{Row, Holds, Table, p1-p4, p5, p6, p7, p8-p9, p10-p11, p12-p13}
+use Rattle.definition.specs.Cases.{Row, Holds, Table, p1-p4, p5, p6, p7, p8-p9, p10-p11, p12-p13, w207}
 
 -- ---- what the cases compute through
 
@@ -46,19 +48,23 @@ unfolding firstBelow digits drawn within scalar scalars encode encodeAll utf8-2 
 openLeaves2 = tt
 
 unfoldable openLeaves3 : Unit {0}
-unfolding decode3 decode4 white trimFront trim isText trimmed right field fields encoded before readFields nothingAfter readPhones readCounted anyLong
+unfolding decode3 decode4 white trimFront trim isText trimmed right field fields carPart carParts encoded before readFields anyLong
 openLeaves3 = tt
 
 unfoldable openLeaves4 : Unit {0}
-unfolding isDigit isSeparator beginsDigit isDropped ungroupedFrom ungrouped overLimits judged decodedBody decoded refusal restored
+unfolding isDigit isSeparator beginsDigit isDropped ungroupedFrom ungrouped overLimits allOf
 openLeaves4 = tt
 
+unfoldable openRecord : Unit {0}
+unfolding ofCar readCounted readAfter readCar readOn readCars readTwo readVersion nothingAfter hasCar twice over judged decoded carOf laidCar emptyCar carsOf storeOf
+openRecord = tt
+
 unfoldable openListing : Unit {0}
-unfolding line phoneLines acceptedLines refusedLines linesOf lines hexOf digit decimalOf digitsUpTo
+unfolding line phoneLines carLines eachCar acceptedLines refusedLines linesOf lines hexOf digit decimalOf digitsUpTo
 openListing = tt
 
 unfoldable openState1 : Unit {0}
-unfolding Range.within Range.settingsFit Range.allOf Range.printable Range.methodFits Range.allFit Range.methodsIn
+unfolding Range.within Range.settingsFit Range.printable Range.methodFits Range.allFit Range.methodsIn
 openState1 = tt
 
 unfoldable openState2 : Unit {0}
@@ -74,7 +80,7 @@ unfolding Replies.readOnlyChanged Replies.challengeChanged Replies.leave Replies
 openState4 = tt
 
 unfoldable openState5 : Unit {0}
-unfolding Replies.finish View.view
+unfolding Replies.finish View.view View.carInRange View.storeInRange
 openState5 = tt
 
 unfoldable openAccess1 : Unit {0}
@@ -90,7 +96,7 @@ unfolding CarIdentity.confirmPlatform
 openAccess3 = tt
 
 unfoldable openPhones : Unit {0}
-unfolding roomFor pushed Store.recordFor Store.restore Store.isFull Store.isOfCar Store.validating
+unfolding roomFor pushed Store.recordFor Store.withSome Store.underEvery Store.forgetting Store.forget Store.restore Store.phonesFor Store.isFull Store.carHas Store.displaced Store.validating Access.approve removeAll kept contains
 openPhones = tt
 
 unfoldable openProbe1 : Unit {0}
@@ -138,7 +144,7 @@ unfolding New.newMethods New.newCore New.madeCore New.newGate Gate.saying Gate.s
 openGate = tt
 
 unfoldable openAll : Unit {0}
-unfolding openLeaves1 openLeaves2 openLeaves3 openLeaves4 openListing openState1 openState2 openState3 openState4 openState5 openAccess1 openAccess2 openAccess3 openPhones openProbe1 openProbe2 openProbe3 openSessions1 openSessions2 openSessions3 openSessions4 openSessions5 openSessions6 openAnswers openGate
+unfolding openLeaves1 openLeaves2 openLeaves3 openLeaves4 openRecord openListing openState1 openState2 openState3 openState4 openState5 openAccess1 openAccess2 openAccess3 openPhones openProbe1 openProbe2 openProbe3 openSessions1 openSessions2 openSessions3 openSessions4 openSessions5 openSessions6 openAnswers openGate
 openAll = tt
 
 -- ---- the cases, line by line of 01
@@ -171,6 +177,10 @@ p12-p13-holds : (byte : ℕ) → Holds (p12-p13 byte)
 unfolding openAll
 p12-p13-holds byte = refl
 
+w207-holds : Holds w207
+unfolding openAll
+w207-holds = refl
+
 -- ---- the table
 
 -- rows that hold, and more that hold
@@ -181,4 +191,4 @@ both rs qs h k = rw (map-append, map-append, h, k)
 -- every row gives what 01 says
 pub table : Table
 table byte =
-    both p1-p4 _ p1-p4-holds (both p5 _ p5-holds (both p6 _ p6-holds (both p7 _ p7-holds (both p8-p9 _ p8-p9-holds (both p10-p11 _ p10-p11-holds (p12-p13-holds byte))))))
+    both p1-p4 _ p1-p4-holds (both p5 _ p5-holds (both p6 _ p6-holds (both p7 _ p7-holds (both p8-p9 _ p8-p9-holds (both p10-p11 _ p10-p11-holds (both (p12-p13 byte) _ (p12-p13-holds byte) w207-holds))))))

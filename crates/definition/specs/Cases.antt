@@ -1,11 +1,11 @@
--- The cases P1 to P13 of document 01, in its order and words; P5, P7 and P9 as W-202, W-206 and W-201 of document 02 have them: what the
--- gate gives, beside what they say. proofs/Table.antt proves them.
+-- The cases P1 to P13 of document 01, in its order and words, and behind them those of W-207; P5, P7, P9 and P12 as W-202, W-206, W-201 and W-207 of document 02 have
+-- them: what the gate gives, beside what they say. proofs/Table.antt proves them.
 use mathlib.Core.Path.{_≡_}
 use mathlib.Core.Bool.{Bool, true, false}
 use mathlib.Core.List.{List, [], _∷_, _++_, map}
 use Prim.Native.Nat.{ℕ}
 use Prim.Native.String.{String}
-use lib.ListN.{replicate}
+use lib.ListN.{length, replicate}
 use Rattle.arrays.specs.Arrays.{padded}
 use Rattle.phones.specs.declared.PhoneList.{PhoneList}
 use Rattle.phones.specs.Phones.{idOf}
@@ -31,7 +31,7 @@ use Rattle.policy_changes.specs.Changes.{withIdentity}
 use Rattle.probe_window.specs.Window.{isBusAwake, isOpen}
 use Rattle.answers.specs.Query.{Reply, saved, isCanBusListenOnly, sessionFor, encodePhoneValidations}
 use Rattle.new_gate.specs.New.{newGate, leastSettings}
-use Rattle.definition.specs.Gate.{Call, newGateCall, startValidation, submitValidationCode, onSession, onLists, onCore, ask, tickValidation, confirmCarIdentity, openIdentityProbe, allowCanTx, heardCanFrame, restorePhoneValidations, step, afterAll}
+use Rattle.definition.specs.Gate.{Call, newGateCall, startValidation, submitValidationCode, onSession, onLists, onCore, ask, tickValidation, confirmCarIdentity, openIdentityProbe, allowCanTx, heardCanFrame, approveCanReadWrite, forgetPhoneValidation, restorePhoneValidations, step, afterAll}
 
 -- ---- a row: what is looked at, and what 01 says of it
 
@@ -220,30 +220,63 @@ p10-p11 =
 
 -- ---- P12 and P13: the saved record
 
+-- the part of a car with a digest of 32 equal bytes and one phone
+abbrev pub part : ℕ → List ℕ → List ℕ
+part byte id = replicate 32 byte ++ (0x01 ∷ length id ∷ id)
+
 -- "01, 32 × 0x11, 01, 02, A1 B2"
 abbrev pub theRecord : List ℕ
-theRecord = 0x01 ∷ replicate 32 0x11 ++ (0x01 ∷ 0x02 ∷ 0xA1 ∷ 0xB2 ∷ [])
+theRecord = 0x01 ∷ part 0x11 phone
 
 abbrev pub restore : List ℕ → Call
 restore bytes = onLists (restorePhoneValidations bytes)
 
-abbrev pub writtenAfter : List Call → Observed
-writtenAfter cs = reply (step (afterAll new cs) (ask encodePhoneValidations) .answer)
+abbrev pub writtenAfter : Gate → List Call → Observed
+writtenAfter g cs = reply (step (afterAll g cs) (ask encodePhoneValidations) .answer)
 
--- P12 the record above; P13 the same plus one byte gives 22, whatever the byte, and empties the store.
+-- P12 the record above; it is written as version 2 (W-207). P13 the same plus one byte gives 22, whatever the byte, and empties the store.
 abbrev pub p12-p13 : ℕ → List Row
 p12-p13 byte =
     (answerAfter new [] (restore theRecord) gives says done) ∷
-    (writtenAfter (restore theRecord ∷ []) gives written theRecord) ∷
+    (writtenAfter new (restore theRecord ∷ []) gives written (0x02 ∷ 0x01 ∷ part 0x11 phone)) ∷
     (printed (lines theRecord)
     gives printed (ascii "answer=ok\ncar=1111111111111111111111111111111111111111111111111111111111111111\nphones=1\nphone=a1b2\n")) ∷
     (answerAfter new (restore theRecord ∷ []) (restore (theRecord ++ (byte ∷ []))) gives refused 22 noValue) ∷
-    (writtenAfter (restore theRecord ∷ restore (theRecord ++ (byte ∷ [])) ∷ []) gives written []) ∷
+    (writtenAfter new (restore theRecord ∷ restore (theRecord ++ (byte ∷ [])) ∷ []) gives written []) ∷
     (printed (lines (theRecord ++ (byte ∷ []))) gives printed (ascii "answer=refused\n")) ∷ []
+
+-- ---- W-207: up to four cars. The car that is known is 32 × 0x11
+
+abbrev pub other : List ℕ
+other = 0xC3 ∷ 0xD4 ∷ []
+
+-- version 2, one car twice
+abbrev pub twoEqual : List ℕ
+twoEqual = 0x02 ∷ 0x02 ∷ part 0x22 phone ++ part 0x22 phone
+
+abbrev pub twoCars : List ℕ
+twoCars = 0x02 ∷ 0x02 ∷ part 0x22 phone ++ part 0x33 other
+
+abbrev pub fourCars : List ℕ
+fourCars = 0x02 ∷ 0x04 ∷ part 0x22 other ++ part 0x33 other ++ part 0x44 other ++ part 0x55 other
+
+-- "28 CarTwice (a digest occurs again ..); the store is emptied as for 22". "An accepted version 2 record is written back unchanged".
+-- "Approving a car no longer clears the others". "Forgetting .. removes it under every car, and a car without phones leaves".
+-- "A fifth car displaces the first".
+abbrev pub w207 : List Row
+w207 =
+    (answerAfter new [] (restore twoEqual) gives refused 28 noValue) ∷
+    (writtenAfter new (restore theRecord ∷ restore twoEqual ∷ []) gives written []) ∷
+    (printed (lines twoEqual) gives printed (ascii "answer=refused\n")) ∷
+    (writtenAfter new (restore fourCars ∷ []) gives written fourCars) ∷
+    (writtenAfter knownCar (restore twoCars ∷ onCore approveCanReadWrite ∷ []) gives written twoCars) ∷
+    (writtenAfter new (restore twoCars ∷ onLists (forgetPhoneValidation phone) ∷ []) gives written (0x02 ∷ 0x01 ∷ part 0x33 other)) ∷
+    (writtenAfter knownCar (restore fourCars ∷ start 1_000 ∷ submitValidationCode phone (ascii "1234") 2_000 ∷ [])
+    gives written (0x02 ∷ 0x04 ∷ part 0x33 other ++ part 0x44 other ++ part 0x55 other ++ part 0x11 phone)) ∷ []
 
 unfoldable pub Holds : List Row → Type 0
 Holds rows = map (λ (r : Row). r .given) rows ≡ map (λ (r : Row). r .wanted) rows
 
 -- every row gives what 01 says
 abbrev pub Table : Type 0
-Table = (byte : ℕ) → Holds (p1-p4 ++ p5 ++ p6 ++ p7 ++ p8-p9 ++ p10-p11 ++ p12-p13 byte)
+Table = (byte : ℕ) → Holds (p1-p4 ++ p5 ++ p6 ++ p7 ++ p8-p9 ++ p10-p11 ++ p12-p13 byte ++ w207)

@@ -13,6 +13,7 @@ use Rattle.frames.specs.declared.ProbeFrame.{ProbeFrame}
 use Rattle.frames.specs.declared.TxClass.{TxClass}
 use Rattle.draw.specs.Draw.{drawn}
 use Rattle.text.specs.Text.{isText, right}
+use Rattle.saved_record.specs.SavedRecord.{CarIds}
 use Rattle.state.specs.declared.Car.{Car}
 use Rattle.state.specs.declared.Method.{Method}
 use Rattle.state.specs.declared.Settings.{Settings}
@@ -27,16 +28,15 @@ use Rattle.state.specs.declared.Ended.{Ended}
 use Rattle.state.specs.declared.Outcome.{Outcome}
 use Rattle.state.specs.Answers.{Numbered, numbered}
 use Rattle.state.specs.Replies.{noS, sentS, nothingRaised, sending, noSignals, noCode, codeAt, showing}
-use Rattle.state.specs.View.{Store, Lists, View, Listing, view, laidPhones}
+use Rattle.state.specs.View.{Lists, View, Listing, view, laidPhones}
 use Rattle.range.specs.Range.{inRange}
-use Rattle.can_access.specs.declared.Approved.{Approved}
 use Rattle.can_access.specs.Approval as Access
 use Rattle.dev_lock.specs.DevLock as DevLock
 use Rattle.car_identity.specs.CarIdentity as CarIdentity
 use Rattle.can.specs.Can as Can
 use Rattle.pairing.specs.Pairing as Pairing
 use Rattle.validations.specs.Store as Validations
-use Rattle.validations.specs.Store.{noStore, recordFor, isFull, isOfOtherCar, validating}
+use Rattle.validations.specs.Store.{recordFor, isFull, validating}
 use Rattle.phone_trust.specs.Trust.{isValidated}
 use Rattle.can_probe.specs.Calls as Probe
 use Rattle.can_tx.specs.Tx as Tx
@@ -48,8 +48,7 @@ use Rattle.answers.specs.Query.{Query, Reply, plain, numberedReply, answerTo}
 use Rattle.new_gate.specs.New.{madeCore}
 
 -- ---- the calls. Those of a session, those on the lists and those on the core alone are told apart by type. Start and submit stand
--- alone, since demand 3 lets the random bytes and the typed code differ between its two runs; approve does, since it changes the core
--- and may empty the store
+-- alone, since demand 3 lets the random bytes and the typed code differ between its two runs
 
 pub data SessionCall : Type 0 where
   cancelValidation : (phone : List ℕ) (clock : ℕ) → SessionCall
@@ -65,7 +64,7 @@ pub data ListCall : Type 0 where
 
 pub data CoreCall : Type 0 where
   setBlePeer : (id : List ℕ) → CoreCall
-  revokeCanReadWriteApproval : CoreCall
+  approveCanReadWrite revokeCanReadWriteApproval : CoreCall
   restoreCanReadWriteApproval : (approval : Car) → CoreCall
   setCanDevWriteUnlocked : (unlocked : Bool) → CoreCall
   declareProductionBuild confirmCarIdentity revokeCarIdentity : CoreCall
@@ -86,7 +85,6 @@ pub data Call : Type 0 where
   submitValidationCode : (phone typed : List ℕ) (clock : ℕ) → Call
   onSession : SessionCall → Call
   onLists : ListCall → Call
-  approveCanReadWrite : Call
   onCore : CoreCall → Call
   ask : Query → Call
 
@@ -99,11 +97,11 @@ pub record Says : Type 0 where
   pub stores : Bool
   pub core : Core
   pub paired : Left (List (List ℕ))
-  pub store : Left Store
+  pub store : Left (List CarIds)
   pub code : List ℕ
 
 -- an operation is not given the digits: it marks where there are none, where the gate's stay, and where those drawn by this call go
-unfoldable pub saying : View → List ℕ → Said → Bool → Left Store → Says
+unfoldable pub saying : View → List ℕ → Said → Bool → Left (List CarIds) → Says
 saying v drawn o stores store = record {
   answer = plain (o .answer);
   raised = showing (codeAt (v .code) drawn (o .shows)) (o .raised);
@@ -119,20 +117,12 @@ abbrev pub ofCore : View → List ℕ → Said → Says
 ofCore v drawn o = saying v drawn o false stays
 
 -- a session that succeeds validates its phone for its car
-abbrev pub validates : Store → Session → Bool → Left Store
-validates s e false = stays
-validates s e true = validating s (e .car) (idBytes (e .phone))
+abbrev pub validates : List CarIds → Session → Bool → Left (List CarIds)
+validates cs e false = stays
+validates cs e true = validating cs (e .car) (idBytes (e .phone))
 
 abbrev pub ofSession : View → Ended → Says
 ofSession v e = saying v noCode (e .said) (e .validates) (validates (v .lists .store) (e .said .core .validation .session) (e .validates))
-
--- an approval leaves the lists, or empties the store
-abbrev pub empties : Bool → Left Store
-empties false = stays
-empties true = becomes noStore
-
-abbrev pub ofApproval : View → Approved → Says
-ofApproval v a = saying v noCode (a .said) (a .empties) (empties (a .empties))
 
 -- an operation on the lists leaves the core and the digits
 abbrev pub ofLists : View → Listing → Says
@@ -173,6 +163,7 @@ listing l bonded (restorePhoneValidations bytes) = Validations.restore bytes
 
 unfoldable pub said : Core → Lists → CoreCall → Said
 said c l (setBlePeer id) = Pairing.setPeer c id
+said c l approveCanReadWrite = Access.approve c
 said c l revokeCanReadWriteApproval = Access.revokeApproval c
 said c l (restoreCanReadWriteApproval approval) = Access.restoreApproval c approval
 said c l (setCanDevWriteUnlocked unlocked) = DevLock.setDevUnlocked c unlocked
@@ -203,7 +194,7 @@ fullFor v = isFull (v .lists .store) (v .core .validation .session .car) (idByte
 unfoldable pub says : View → Call → Says
 says v (newGateCall settings methods count) =
     let m = madeCore settings methods count in
-    record { answer = plain (m .answer); raised = nothingRaised; stores = false; core = m .core; paired = becomes []; store = becomes noStore; code = noCode }
+    record { answer = plain (m .answer); raised = nothingRaised; stores = false; core = m .core; paired = becomes []; store = becomes []; code = noCode }
 says v (startValidation phone method clock random) =
     let d = drawn random (v .core .settings .digits) in
     served v (ofCore v (d .code) (Validation.start (v .core) phone method clock (isLent random) (d .ok)))
@@ -212,8 +203,6 @@ says v (submitValidationCode phone typed clock) =
     served v (ofSession v (Validation.submit (v .core) phone clock (isText typed) isRight (fullFor v)))
 says v (onSession k) = served v (ofSession v (ended (v .core) (fullFor v) k))
 says v (onLists k) = served v (ofLists v (listing (v .lists) (v .core .settings .bonded) k))
-says v approveCanReadWrite =
-    served v (ofApproval v (Access.approve (v .core) (isOfOtherCar (v .lists .store) (v .core .policy .identity .car .digest))))
 says v (onCore k) = served v (ofCore v noCode (said (v .core) (v .lists) k))
 says v (ask q) = asked v (answerTo v q)
 

@@ -49,8 +49,9 @@ keeps-locked c true = search keeping
 keeps-locked c false = search keeping
 
 pub core-keeps : (c : Core) (l : Lists) (k : CoreCall) → Keeps (map inCore (coreTouches k)) c (said c l k)
-unfolding said someOf notified Pairing.setPeer Access.revokeApproval Access.restoreApproval DevLock.setDevUnlocked DevLock.declareProduction CarIdentity.confirmPlatform CarIdentity.revokePlatform CarIdentity.confirmFingerprint CarIdentity.notePlatform Can.noteLogging Can.noteFdBus Changes.policyChanged Probe.openProbe Probe.closeProbe Probe.windowChanged Tx.allow Probe.heard Methods.noteAvailable Methods.noteContinue
+unfolding said someOf notified Pairing.setPeer Access.approve Access.revokeApproval Access.restoreApproval DevLock.setDevUnlocked DevLock.declareProduction CarIdentity.confirmPlatform CarIdentity.revokePlatform CarIdentity.confirmFingerprint CarIdentity.notePlatform Can.noteLogging Can.noteFdBus Changes.policyChanged Probe.openProbe Probe.closeProbe Probe.windowChanged Tx.allow Probe.heard Methods.noteAvailable Methods.noteContinue
 core-keeps c l (Gate.setBlePeer id) = search keeping
+core-keeps c l Gate.approveCanReadWrite = search keeping
 core-keeps c l Gate.revokeCanReadWriteApproval = search keeping
 core-keeps c l (Gate.restoreCanReadWriteApproval approval) = search keeping
 core-keeps c l (Gate.setCanDevWriteUnlocked unlocked) = search keeping

@@ -4,11 +4,11 @@ use mathlib.Core.Bool.{Bool, cond}
 use mathlib.Core.List.{List, [], _∷_}
 use Prim.Native.Nat.{ℕ}
 use Rattle.phones.specs.Ids.{someOf, Left, stays, becomes}
-use Rattle.saved_record.specs.SavedRecord.{Reading, malformed, tooLarge, ok}
+use Rattle.saved_record.specs.SavedRecord.{CarIds, Reading, malformed, carTwice, tooLarge, ok}
 use Rattle.state.specs.declared.Answer.{Answer}
 use Rattle.state.specs.declared.Raised.{Raised}
 use Rattle.state.specs.Checks.{Check, checked}
-use Rattle.state.specs.View.{Store, Lists, Listing, listsStay}
+use Rattle.state.specs.View.{Lists, Listing, listsStay}
 use Rattle.validations.specs.Store as Validations
 use Rattle.pairing.specs.Pairing as Pairing
 use Rattle.definition.specs.Gate as Gate
@@ -31,7 +31,7 @@ lists-cond ps b x y h k = either (λ z. KeepsLists ps z) b x y h k
 lists-checked : (ps : List Part) (r : Raised) (ks : List Check) (x : Listing) → KeepsLists ps x → KeepsLists ps (checked (listsStay r) ks x)
 lists-checked ps r ks x h = each-check (λ z. KeepsLists ps z) (listsStay r) ks x (lists-stay ps r) h
 
-lists-storing : (a : Answer) (s : Left Store) → KeepsLists (store ∷ []) (Validations.storing a stays s)
+lists-storing : (a : Answer) (s : Left (List CarIds)) → KeepsLists (store ∷ []) (Validations.storing a stays s)
 unfolding someOf
 lists-storing a stays = search
 lists-storing a (becomes s) = search
@@ -39,8 +39,9 @@ lists-storing a (becomes s) = search
 lists-restoring : (r : Reading) → KeepsLists (store ∷ []) (Validations.restoring r)
 unfolding someOf
 lists-restoring malformed = search
+lists-restoring carTwice = search
 lists-restoring tooLarge = search
-lists-restoring (ok car phones) = search
+lists-restoring (ok cs) = search
 
 pub lists-keep : (l : Lists) (bonded : ℕ) (k : ListCall) → KeepsLists (listTouches k) (listing l bonded k)
 unfolding listing Pairing.pair Validations.forget Validations.prune Validations.restore someOf

@@ -5,13 +5,14 @@ use mathlib.Core.List.{List, []}
 use Prim.Native.Nat.{ℕ}
 use Rattle.phones.specs.Ids.{someOf, Left, stays}
 use Rattle.phones.specs.Phones.{laid}
+use Rattle.saved_record.specs.SavedRecord.{CarIds}
 use Rattle.state.specs.declared.Gate.{Gate}
 use Rattle.state.specs.declared.Answer.the-variants.{BadSettings}
 use Rattle.state.specs.declared.Mark.{Mark}
 use Rattle.state.specs.declared.Mark.the-variants.{Kept}
 use Rattle.state.specs.declared.Said.{Said}
 use Rattle.state.specs.Replies.{noCode, codeAt}
-use Rattle.state.specs.View.{Store, View, Listing, view, laidStore}
+use Rattle.state.specs.View.{View, Listing, view, laidStore}
 use Rattle.range.specs.Range.{inRange}
 use Rattle.answers.specs.Query.{Reply, plain}
 use Rattle.definition.specs.Gate as Gate
@@ -19,7 +20,7 @@ use Rattle.definition.specs.Gate.{SessionCall, Call, Says, saying, asked, serve
 use Rattle.footprint.specs.Footprint.{Part, settings, methods, validation, paired, store, code, inCore, notes, policy, peer, probe, sessionTouches, listTouches, touches, isIn, Same, Footprint}
 use Rattle.footprint.proofs.Keeps.{pick, mixed, Keeps, either, same-either, unchanged}
 use Rattle.footprint.proofs.Core.{core-keeps}
-use Rattle.footprint.proofs.Sessions.{start-keeps, submit-keeps, session-keeps, approve-keeps}
+use Rattle.footprint.proofs.Sessions.{start-keeps, submit-keeps, session-keeps}
 use Rattle.footprint.proofs.Lists.{KeepsLists, lists-keep}
 
 -- ---- what a call says
@@ -35,7 +36,7 @@ held-at : (b : Bool) (held drawn : List ℕ) (m : Mark) → m ≡ cond b m Kept 
 held-at true held drawn m e = refl
 held-at false held drawn m e = ap (λ (m : Mark). codeAt held drawn m) e
 
-leaves-said : (ps : List Part) (v : View) (drawn : List ℕ) (o : Said) (stores : Bool) (x : Left Store) → Keeps ps (v .core) o → x ≡ pick ps store stays x
+leaves-said : (ps : List Part) (v : View) (drawn : List ℕ) (o : Said) (stores : Bool) (x : Left (List CarIds)) → Keeps ps (v .core) o → x ≡ pick ps store stays x
     → Leaves ps v (saying v drawn o stores x)
 unfolding saying
 leaves-said ps v drawn o stores x h e =
@@ -76,7 +77,6 @@ leaves v (Gate.startValidation phone method clock random) = leaves-served _ v _ 
 leaves v (Gate.submitValidationCode phone typed clock) = leaves-served _ v _ (leaves-said _ v noCode _ _ _ (submit-keeps (v .core) phone typed clock _ _ _) refl)
 leaves v (Gate.onSession k) = leaves-served (sessionTouches k) v _ (leaves-session v _ k)
 leaves v (Gate.onLists k) = leaves-served (listTouches k) v _ (leaves-lists (listTouches k) v _ (lists-keep (v .lists) (v .core .settings .bonded) k))
-leaves v Gate.approveCanReadWrite = leaves-served _ v _ (leaves-said _ v noCode _ _ _ (approve-keeps (v .core) _) refl)
 leaves v (Gate.onCore k) = leaves-served (touches (Gate.onCore k)) v _ (leaves-core (touches (Gate.onCore k)) v noCode _ (core-keeps (v .core) (v .lists) k))
 leaves v (Gate.ask q) = leaves-asked [] v _
 

@@ -1,6 +1,6 @@
--- What a session's calls, start, submit and an approval leave of the core: a line or two for each.
+-- What a session's calls, start and submit leave of the core: a line or two for each.
 use mathlib.Core.Path.{_≡_, refl}
-use mathlib.Core.Bool.{Bool, true, cond, not}
+use mathlib.Core.Bool.{Bool, true, cond}
 use mathlib.Core.List.{List}
 use Prim.Native.Nat.{ℕ}
 use Rattle.phones.specs.Ids.{someOf}
@@ -15,9 +15,6 @@ use Rattle.state.specs.declared.Ended.{Ended}
 use Rattle.state.specs.Parts.{withValidation}
 use Rattle.state.specs.Replies.{notified}
 use Rattle.state.specs.Checks.{checked}
-use Rattle.policy.specs.Policy.{fingerprintConfirmed}
-use Rattle.can_access.specs.declared.Approved.{Approved}
-use Rattle.can_access.specs.Approval.{approve}
 use Rattle.session.specs.declared.Lapse.{Lapse}
 use Rattle.session.specs.declared.Lapse.the-variants.{Stays, Ends}
 use Rattle.session.specs.Session.{lapseOf}
@@ -97,8 +94,3 @@ unfolding ended cancel tick someOf
 session-keeps c full (Gate.cancelValidation phone clock) = search (keeping, keeps-end)
 session-keeps c full (Gate.completeValidationAction number clock) = ended-complete _ refl refl c number clock full .said
 session-keeps c full (Gate.tickValidation clock) = keeps-ticked _ refl refl c clock (lapseOf c clock)
-
-pub approve-keeps : (c : Core) (other : Bool) → Keeps (touches Gate.approveCanReadWrite) c (approve c other .said)
-unfolding approve checked someOf
-approve-keeps c other =
-    either (λ (a : Approved). Keeps (touches Gate.approveCanReadWrite) c (a .said)) (not (fingerprintConfirmed (c .policy .identity))) _ _ (search keeping) (search keeping)

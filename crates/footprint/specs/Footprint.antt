@@ -7,7 +7,7 @@ use mathlib.Core.List.{List, [], _∷_, map}
 use lib.Dec.{eqb}
 use Rattle.phones.specs.Ids.{someOf}
 use Rattle.state.specs.declared.Gate.{Gate}
-use Rattle.definition.specs.Gate.{SessionCall, cancelValidation, completeValidationAction, tickValidation, ListCall, addPairedPhone, removePairedPhone, clearPairedPhones, forgetPhoneValidation, prunePhoneValidations, restorePhoneValidations, CoreCall, setBlePeer, revokeCanReadWriteApproval, restoreCanReadWriteApproval, setCanDevWriteUnlocked, declareProductionBuild, confirmCarIdentity, revokeCarIdentity, confirmCarFingerprint, setCanReadOnly, openIdentityProbe, closeIdentityProbe, allowCanTx, heardCanFrame, notePlatformId, noteCanLogging, noteCanFdBus, noteMethodAvailable, noteMethodCanContinue, Call, newGateCall, startValidation, submitValidationCode, onSession, onLists, approveCanReadWrite, onCore, ask, after}
+use Rattle.definition.specs.Gate.{SessionCall, cancelValidation, completeValidationAction, tickValidation, ListCall, addPairedPhone, removePairedPhone, clearPairedPhones, forgetPhoneValidation, prunePhoneValidations, restorePhoneValidations, CoreCall, setBlePeer, approveCanReadWrite, revokeCanReadWriteApproval, restoreCanReadWriteApproval, setCanDevWriteUnlocked, declareProductionBuild, confirmCarIdentity, revokeCarIdentity, confirmCarFingerprint, setCanReadOnly, openIdentityProbe, closeIdentityProbe, allowCanTx, heardCanFrame, notePlatformId, noteCanLogging, noteCanFdBus, noteMethodAvailable, noteMethodCanContinue, Call, newGateCall, startValidation, submitValidationCode, onSession, onLists, onCore, ask, after}
 
 -- ---- the parts
 
@@ -37,6 +37,7 @@ listTouches (restorePhoneValidations bytes) = store ∷ []
 
 abbrev pub coreTouches : CoreCall → List CorePart
 coreTouches (setBlePeer id) = peer ∷ []
+coreTouches approveCanReadWrite = policy ∷ []
 coreTouches revokeCanReadWriteApproval = policy ∷ []
 coreTouches (restoreCanReadWriteApproval approval) = policy ∷ []
 coreTouches (setCanDevWriteUnlocked unlocked) = policy ∷ []
@@ -62,7 +63,6 @@ touches (startValidation phone method clock random) = validation ∷ code ∷ []
 touches (submitValidationCode phone typed clock) = validation ∷ store ∷ code ∷ []
 touches (onSession k) = sessionTouches k
 touches (onLists k) = listTouches k
-touches approveCanReadWrite = inCore policy ∷ store ∷ []
 touches (onCore k) = map inCore (coreTouches k)
 touches (ask q) = []
 

@@ -4,18 +4,15 @@ use state::Car;
 use state::Gate;
 use state::Outcome;
 ghost use mathlib.Core.Path.{_≡_};
-ghost use Rattle.definition.specs.Gate.{revokeCanReadWriteApproval, restoreCanReadWriteApproval, setCanDevWriteUnlocked, declareProductionBuild, confirmCarIdentity, revokeCarIdentity, confirmCarFingerprint, setCanReadOnly, approveCanReadWrite, onCore, step, given};
+ghost use Rattle.definition.specs.Gate.{approveCanReadWrite, revokeCanReadWriteApproval, restoreCanReadWriteApproval, setCanDevWriteUnlocked, declareProductionBuild, confirmCarIdentity, revokeCarIdentity, confirmCarFingerprint, setCanReadOnly, onCore, step, given};
 
 pub fn approve_can_read_write(g: Gate) -> Outcome
-    ensures { λ r. ⌜ given r ≡ step g approveCanReadWrite ⌝ }
+    ensures { λ r. ⌜ given r ≡ step g (onCore approveCanReadWrite) ⌝ }
 {
     let core = g.core;
-    let store = g.phones.store;
-    let digest = core.policy.identity.car.digest;
-    let other = validations::is_of_other_car(store, digest);
-    let a = can_access::approve_can_read_write(core, other);
-    let told = outcomes::approved_on(g, a);
-    outcomes::approved(g, told)
+    let said = can_access::approve_can_read_write(core);
+    let told = outcomes::said_on(g, said);
+    outcomes::settled(g, told)
 }
 
 pub fn revoke_can_read_write_approval(g: Gate) -> Outcome

@@ -5,7 +5,8 @@ use mathlib.Core.List.{List, [], _∷_, map}
 use Prim.Native.Nat.{ℕ}
 use Rattle.phones.specs.Ids.{idsFit, Left, stays, becomes, afterwards}
 use Rattle.state.specs.Replies.{noS, sentS, sending}
-use Rattle.state.specs.View.{Store, View}
+use Rattle.state.specs.View.{View}
+use Rattle.range.proofs.Stores.{carsFit}
 use Rattle.validations.specs.Store.{recordFor}
 use Rattle.answers.specs.Query as Query
 use Rattle.answers.specs.Query.{Reply, plain, numberedReply}
@@ -14,20 +15,16 @@ use Rattle.layouts.specs.Layouts.{run, Told, told}
 
 -- ---- what becomes of a view
 
-abbrev pub fitsAfter : Bool → Left (List (List ℕ)) → Bool
-fitsAfter t stays = t
-fitsAfter t (becomes ps) = idsFit ps
-
-abbrev pub storeFitsAfter : Bool → Left Store → Bool
-storeFitsAfter t stays = t
-storeFitsAfter t (becomes s) = idsFit (s .phones)
+abbrev pub fitsAfter : {A : Type 0} → (A → Bool) → Bool → Left A → Bool
+fitsAfter fit t stays = t
+fitsAfter fit t (becomes x) = fit x
 
 abbrev pub after : View → Says → View
 after v s = record {
   core = s .core;
   lists = record { paired = afterwards (v .lists .paired) (s .paired); store = afterwards (v .lists .store) (s .store) };
-  pairedFits = fitsAfter (v .pairedFits) (s .paired);
-  storeFits = storeFitsAfter (v .storeFits) (s .store);
+  pairedFits = fitsAfter idsFit (v .pairedFits) (s .paired);
+  storeFits = fitsAfter carsFit (v .storeFits) (s .store);
   code = s .code;
 }
 

@@ -17,8 +17,9 @@ use Rattle.phones.proofs.Laws.{phones-of-list, bytes-of-id}
 use Rattle.phones.proofs.Search.{none-cons}
 use Rattle.phones.proofs.Range.{Short, range-short}
 use Rattle.phones.proofs.Packed.{fits-of-list, fits-parts, parts-fit, range-fits, always-room}
-use Rattle.layouts.specs.Wide.{WideList, WideSized, wideIds, wideOf, wideInRange, wideLaid}
-use Rattle.layouts.specs.Layouts.{Change, changed, Sized, SameIds, Zeros}
+use Rattle.layouts.specs.Wide.{wideLaid, WideList, wideIds, wideOf, wideInRange}
+use Rattle.layouts.specs.Layouts.{All, Change, changed, Sized, WideSized, SameIds, Zeros}
+use Rattle.layouts.proofs.All.{all-map, all-padded}
 use Rattle.layouts.proofs.Laws.{fitsAfter}
 
 -- ---- the old layout
@@ -75,17 +76,19 @@ pub packed-ids : (l : PhoneList) (x : Left (List (List ℕ))) → phonesOf (laid
 packed-ids l stays = refl
 packed-ids l (becomes ps) = phones-of-list ps
 
-pub packed-range : (l : PhoneList) (x : Left (List (List ℕ))) → listInRange (laid l x) ≡ fitsAfter (listInRange l) x
+pub packed-range : (l : PhoneList) (x : Left (List (List ℕ))) → listInRange (laid l x) ≡ fitsAfter idsFit (listInRange l) x
 packed-range l stays = refl
 packed-range l (becomes ps) = fits-of-list ps
 
-pub wide-ids : (l : WideList) (x : Left (List (List ℕ))) → wideIds (wideLaid l x) ≡ afterwards (wideIds l) x
-wide-ids l stays = refl
-wide-ids l (becomes ps) = wide-reads ps
+-- of the old layout, of a list or a store
+module _ {A B : Type 0} (lay : B → A) where
+  pub wide-ids : (ids : A → B) → ((y : B) → ids (lay y) ≡ y) → (x : A) (y : Left B) → ids (wideLaid lay x y) ≡ afterwards (ids x) y
+  wide-ids ids k x stays = refl
+  wide-ids ids k x (becomes y) = k y
 
-pub wide-range : (l : WideList) (x : Left (List (List ℕ))) → wideInRange (wideLaid l x) ≡ fitsAfter (wideInRange l) x
-wide-range l stays = refl
-wide-range l (becomes ps) = wide-fits ps
+  pub wide-range : (range : A → Bool) (fit : B → Bool) → ((y : B) → range (lay y) ≡ fit y) → (x : A) (y : Left B) → range (wideLaid lay x y) ≡ fitsAfter fit (range x) y
+  wide-range range fit k x stays = refl
+  wide-range range fit k x (becomes y) = k y
 
 -- ---- what is laid down of ids that fit has the size of its type
 
@@ -108,20 +111,21 @@ packed-sized ps f =
     let m = length-map ps length in
     (padded-length 1024 0 (joined ps) (omega arith), padded-length 32 0 (map length ps) (omega arith))
 
-bytes-sized : (ps : List (List ℕ)) (k : ℕ) → Short ps → (i : ℕ) → length (getD (map idOf ps ++ replicate k (idOf [])) i (idOf []) .bytes) ≡ 32
+id-sized : (p : List ℕ) → length p ≤ 32 → length (idOf p .bytes) ≡ 32
 unfolding idOf
-bytes-sized [] zero h i = padded-length 32 0 [] (omega arith)
-bytes-sized [] (suc k) h zero = padded-length 32 0 [] (omega arith)
-bytes-sized [] (suc k) h (suc i) = bytes-sized [] k h i
-bytes-sized (p ∷ ps) k h zero = padded-length 32 0 p (h zero)
-bytes-sized (p ∷ ps) k h (suc i) = bytes-sized ps k (λ j. h (suc j)) i
+id-sized p h = padded-length 32 0 p h
+
+all-short : (ps : List (List ℕ)) → Short ps → All (λ (p : List ℕ). length p ≤ 32) ps
+all-short [] h = tt
+all-short (p ∷ ps) h = (h zero, all-short ps (λ i. h (suc i)))
 
 pub wide-sized : (ps : List (List ℕ)) → idsFit ps ≡ true → WideSized (wideOf ps)
-unfolding wideOf padded
+unfolding wideOf
 wide-sized ps f =
     let few = fits-parts ps f .0 in
     let m = length-map ps idOf in
-    (padded-length 32 (idOf []) (map idOf ps) (omega arith), bytes-sized ps (32 - length (map idOf ps)) (short-of ps f))
+    let S : ShortId → Type 0 = λ p. length (p .bytes) ≡ 32 in
+    (padded-length 32 (idOf []) (map idOf ps) (omega arith), all-padded S 32 (idOf []) (map idOf ps) (id-sized [] (omega arith)) (all-map S idOf _ id-sized ps (all-short ps (short-of ps f))))
 
 packs : (w : WideList) → wideInRange w ≡ true → (l : PhoneList) × Sized l × (listInRange l ≡ true) × (phonesOf l ≡ wideIds w)
 packs w h = (listOf (wideIds w), packed-sized (wideIds w) (wide-range-fits w h), fits-of-list (wideIds w) ∙ wide-range-fits w h, phones-of-list (wideIds w))
@@ -129,11 +133,11 @@ packs w h = (listOf (wideIds w), packed-sized (wideIds w) (wide-range-fits w h),
 unpacks : (l : PhoneList) → listInRange l ≡ true → (w : WideList) × WideSized w × (wideInRange w ≡ true) × (wideIds w ≡ phonesOf l)
 unpacks l h = (wideOf (phonesOf l), wide-sized (phonesOf l) (range-fits l h), wide-fits (phonesOf l) ∙ range-fits l h, wide-reads (phonesOf l))
 
-changes : (k : Change) (l : PhoneList) (w : WideList) → phonesOf l ≡ wideIds w → phonesOf (laid l (changed k (phonesOf l))) ≡ wideIds (wideLaid w (changed k (wideIds w)))
+changes : (k : Change) (l : PhoneList) (w : WideList) → phonesOf l ≡ wideIds w → phonesOf (laid l (changed k (phonesOf l))) ≡ wideIds (wideLaid wideOf w (changed k (wideIds w)))
 changes k l w e =
     packed-ids l (changed k (phonesOf l))
     ∙ ap (λ (ps : List (List ℕ)). afterwards ps (changed k ps)) e
-    ∙ sym (wide-ids w (changed k (wideIds w)))
+    ∙ sym (wide-ids wideOf wideIds wide-reads w (changed k (wideIds w)))
 
 pub same-ids : SameIds
 same-ids = record { packs = packs; unpacks = unpacks; changes = changes; room = always-room }

@@ -1,60 +1,49 @@
 -- W-210 holds.
 use mathlib.Core.Path.{_≡_, refl, sym, _∙_}
-use mathlib.Core.Bool.{Bool, true, false, _&&_, false≢true}
+use mathlib.Core.Bool.{true, and-eq-true-iff}
 use mathlib.Core.List.{List, [], _∷_}
 use Prim.Native.Nat.{ℕ}
 use Rattle.phones.specs.declared.PhoneList.{PhoneList}
-use Rattle.phones.specs.Ids.{Left, stays, becomes, afterwards}
-use Rattle.phones.specs.Phones.{phonesOf, listOf, listInRange, laid}
+use Rattle.phones.specs.Ids.{idsFit, Left, stays, becomes}
+use Rattle.phones.specs.Phones.{phonesOf, listOf, laid}
 use Rattle.phones.proofs.Laws.{phones-of-list}
 use Rattle.phones.proofs.Packed.{fits-of-list, range-fits}
+use Rattle.saved_record.specs.declared.Store.{Store}
+use Rattle.saved_record.specs.SavedRecord.{CarIds}
+use Rattle.saved_record.specs.Store.{carsOf, storeOf}
+use Rattle.saved_record.proofs.Laws.{cars-of-store}
 use Rattle.state.specs.declared.Settings.{Settings}
 use Rattle.state.specs.declared.Method.{Method}
-use Rattle.state.specs.declared.Validations.{Validations}
 use Rattle.state.specs.declared.Gate.{Gate}
-use Rattle.state.specs.View.{Store, View, view, storeIn, laidStore}
-use Rattle.range.specs.Range.{coreFits, inRange}
+use Rattle.state.specs.View.{View, view, laidStore}
+use Rattle.range.specs.Range.{inRange}
+use Rattle.range.proofs.Stores.{carsFit, cars-fit, store-range, store-fits}
 use Rattle.definition.specs.Gate.{Call, newGateCall, Says, says, gives, left, packed, step}
-use Rattle.layouts.specs.Wide.{WideList, WideSized, WideStore, WideGate, wideIds, wideOf, wideInRange, wideStoreIn, wideLaidStore, wideView, wideLeft, wide}
-use Rattle.layouts.specs.Layouts.{Sized, run, LayoutsAgree, Zeros, ZerosIn, All, ZerosPast}
-use Rattle.layouts.proofs.Laws.{fitsAfter, storeFitsAfter, after, Lawful, agree}
+use Rattle.layouts.specs.Wide.{WideGate, wideIds, wideOf, wideInRange, wideCars, wideStoreOf, wideStoreInRange, wideView, wideLeft, wide}
+use Rattle.layouts.specs.Layouts.{All, Sized, WideSized, SizedStore, WideSizedStore, run, LayoutsAgree, Zeros, ZerosStore, ZerosIn, ZerosPast}
+use Rattle.layouts.proofs.Laws.{after, Lawful, agree}
 use Rattle.layouts.proofs.Lists.{packed-sized, wide-sized, wide-reads, wide-fits, wide-range-fits, packed-ids, packed-range, wide-ids, wide-range, zeros-of-list}
+use Rattle.layouts.proofs.Stores.{store-left-ids, store-left-range, store-sized, wide-store-reads, wide-store-range, wide-store-fits, wide-store-sized, zeros-of-store}
 
 -- ---- both forms keep to the law
-
-store-ids : (v : Validations) (x : Left Store) → storeIn (laidStore v x) ≡ afterwards (storeIn v) x
-store-ids v stays = refl
-store-ids v (becomes s) = rw (phones-of-list (s .phones))
-
-store-range : (v : Validations) (x : Left Store) → listInRange (laidStore v x .phones) ≡ storeFitsAfter (listInRange (v .phones)) x
-store-range v stays = refl
-store-range v (becomes s) = fits-of-list (s .phones)
 
 packed-leaves : (g : Gate) (s : Says) → view (left g s) ≡ after (view g) s
 unfolding view left
 packed-leaves g s = λ i. record {
   core = s .core;
-  lists = record { paired = packed-ids (g .phones .paired) (s .paired) i; store = store-ids (g .phones .store) (s .store) i };
+  lists = record { paired = packed-ids (g .phones .paired) (s .paired) i; store = store-left-ids (g .phones .store) (s .store) i };
   pairedFits = packed-range (g .phones .paired) (s .paired) i;
-  storeFits = store-range (g .phones .store) (s .store) i;
+  storeFits = store-left-range (g .phones .store) (s .store) i;
   code = s .code;
 }
-
-wide-store-ids : (v : WideStore) (x : Left Store) → wideStoreIn (wideLaidStore v x) ≡ afterwards (wideStoreIn v) x
-wide-store-ids v stays = refl
-wide-store-ids v (becomes s) = rw (wide-reads (s .phones))
-
-wide-store-range : (v : WideStore) (x : Left Store) → wideInRange (wideLaidStore v x .phones) ≡ storeFitsAfter (wideInRange (v .phones)) x
-wide-store-range v stays = refl
-wide-store-range v (becomes s) = wide-fits (s .phones)
 
 wide-leaves : (g : WideGate) (s : Says) → wideView (wideLeft g s) ≡ after (wideView g) s
 unfolding wideView wideLeft
 wide-leaves g s = λ i. record {
   core = s .core;
-  lists = record { paired = wide-ids (g .paired) (s .paired) i; store = wide-store-ids (g .store) (s .store) i };
-  pairedFits = wide-range (g .paired) (s .paired) i;
-  storeFits = wide-store-range (g .store) (s .store) i;
+  lists = record { paired = wide-ids wideOf wideIds wide-reads (g .paired) (s .paired) i; store = wide-ids wideStoreOf wideCars wide-store-reads (g .store) (s .store) i };
+  pairedFits = wide-range wideOf wideInRange idsFit wide-fits (g .paired) (s .paired) i;
+  storeFits = wide-range wideStoreOf wideStoreInRange carsFit wide-store-range (g .store) (s .store) i;
   code = s .code;
 }
 
@@ -64,71 +53,48 @@ packed-law = record { reads = phones-of-list; leaves = packed-leaves }
 wide-law : Lawful wide wideIds
 wide-law = record { reads = wide-reads; leaves = wide-leaves }
 
--- ---- a gate in range has its like
-
-and-true : (a b : Bool) → a && b ≡ true → (a ≡ true) × (b ≡ true)
-and-true true b h = (refl, h)
-and-true false b h = absurd (false≢true h)
+-- ---- a gate in range has its like: its ids and its cars, laid anew
 
 both-fit : (v : View) → inRange v ≡ true → (v .pairedFits ≡ true) × (v .storeFits ≡ true)
 unfolding inRange
-both-fit v h =
-    let p = and-true (coreFits (v .core) && v .pairedFits) (v .storeFits) h in
-    (and-true (coreFits (v .core)) (v .pairedFits) (p .0) .1, p .1)
+both-fit v h = let p = simp and-eq-true-iff at h in (p .0 .1, p .1)
 
-wide-both : (w : WideGate) → inRange (wideView w) ≡ true → (wideInRange (w .paired) ≡ true) × (wideInRange (w .store .phones) ≡ true)
-unfolding wideView
-wide-both w h = both-fit (wideView w) h
-
-packed-both : (g : Gate) → inRange (view g) ≡ true → (listInRange (g .phones .paired) ≡ true) × (listInRange (g .phones .store .phones) ≡ true)
-unfolding view
-packed-both g h = both-fit (view g) h
-
--- packed anew, a list in range is seen as it was
-packed-fit : (w : WideList) → wideInRange w ≡ true → listInRange (listOf (wideIds w)) ≡ wideInRange w
-packed-fit w h = fits-of-list (wideIds w) ∙ wide-range-fits w h ∙ sym h
-
-wide-fit : (l : PhoneList) → listInRange l ≡ true → wideInRange (wideOf (phonesOf l)) ≡ listInRange l
-wide-fit l h = wide-fits (phonesOf l) ∙ range-fits l h ∙ sym h
-
-packs : (w : WideGate) → inRange (wideView w) ≡ true → (g : Gate) × Sized (g .phones .paired) × Sized (g .phones .store .phones) × (view g ≡ wideView w)
+packs : (w : WideGate) → inRange (wideView w) ≡ true → (g : Gate) × Sized (g .phones .paired) × SizedStore (g .phones .store) × (view g ≡ wideView w)
 unfolding view wideView
 packs w h =
-    let r = wide-both w h in (
-      record {
-        core = w .core;
-        phones = record { paired = listOf (wideIds (w .paired)); store = record { car = w .store .car; phones = listOf (wideIds (w .store .phones)) } };
-        code = w .code;
-      },
-      packed-sized (wideIds (w .paired)) (wide-range-fits (w .paired) (r .0)),
-      packed-sized (wideIds (w .store .phones)) (wide-range-fits (w .store .phones) (r .1)),
+    let r = both-fit (wideView w) h in
+    let ids = wideIds (w .paired) in
+    let cars = wideCars (w .store) in
+    let idsIn = wide-range-fits (w .paired) (r .0) in
+    let carsIn = wide-store-fits (w .store) (r .1) in (
+      record { core = w .core; phones = record { paired = listOf ids; store = storeOf cars }; code = w .code },
+      packed-sized ids idsIn,
+      store-sized cars carsIn,
       λ i. record {
         core = w .core;
-        lists = record { paired = phones-of-list (wideIds (w .paired)) i; store = record { car = w .store .car; phones = phones-of-list (wideIds (w .store .phones)) i } };
-        pairedFits = packed-fit (w .paired) (r .0) i;
-        storeFits = packed-fit (w .store .phones) (r .1) i;
+        lists = record { paired = phones-of-list ids i; store = cars-of-store cars i };
+        pairedFits = (fits-of-list ids ∙ idsIn ∙ sym (r .0)) i;
+        storeFits = (store-range cars ∙ cars-fit cars carsIn ∙ sym (r .1)) i;
         code = w .code;
       },
     )
 
-unpacks : (g : Gate) → inRange (view g) ≡ true → (w : WideGate) × WideSized (w .paired) × WideSized (w .store .phones) × (wideView w ≡ view g)
+unpacks : (g : Gate) → inRange (view g) ≡ true → (w : WideGate) × WideSized (w .paired) × WideSizedStore (w .store) × (wideView w ≡ view g)
 unfolding view wideView
 unpacks g h =
-    let r = packed-both g h in
-    let p = g .phones in (
-      record {
-        core = g .core;
-        paired = wideOf (phonesOf (p .paired));
-        store = record { car = p .store .car; phones = wideOf (phonesOf (p .store .phones)) };
-        code = g .code;
-      },
-      wide-sized (phonesOf (p .paired)) (range-fits (p .paired) (r .0)),
-      wide-sized (phonesOf (p .store .phones)) (range-fits (p .store .phones) (r .1)),
+    let r = both-fit (view g) h in
+    let ids = phonesOf (g .phones .paired) in
+    let cars = carsOf (g .phones .store) in
+    let idsIn = range-fits (g .phones .paired) (r .0) in
+    let carsIn = store-fits (g .phones .store) (r .1) in (
+      record { core = g .core; paired = wideOf ids; store = wideStoreOf cars; code = g .code },
+      wide-sized ids idsIn,
+      wide-store-sized cars carsIn,
       λ i. record {
         core = g .core;
-        lists = record { paired = wide-reads (phonesOf (p .paired)) i; store = record { car = p .store .car; phones = wide-reads (phonesOf (p .store .phones)) i } };
-        pairedFits = wide-fit (p .paired) (r .0) i;
-        storeFits = wide-fit (p .store .phones) (r .1) i;
+        lists = record { paired = wide-reads ids i; store = wide-store-reads cars i };
+        pairedFits = (wide-fits ids ∙ idsIn ∙ sym (r .0)) i;
+        storeFits = (wide-store-range cars ∙ cars-fit cars carsIn ∙ sym (r .1)) i;
         code = g .code;
       },
     )
@@ -143,15 +109,15 @@ layouts-agree = record { agree = agree packed phonesOf packed-law wide wideIds w
 -- ---- zeros past the last id
 
 abbrev ZerosOf : Gate → Type 0
-ZerosOf g = Zeros (g .phones .paired) × Zeros (g .phones .store .phones)
+ZerosOf g = Zeros (g .phones .paired) × ZerosStore (g .phones .store)
 
 zeros-laid : (l : PhoneList) (x : Left (List (List ℕ))) → Zeros l → Zeros (laid l x)
 zeros-laid l stays z = z
 zeros-laid l (becomes ps) z = zeros-of-list ps
 
-zeros-store : (v : Validations) (x : Left Store) → Zeros (v .phones) → Zeros (laidStore v x .phones)
-zeros-store v stays z = z
-zeros-store v (becomes s) z = zeros-of-list (s .phones)
+zeros-store : (s : Store) (x : Left (List CarIds)) → ZerosStore s → ZerosStore (laidStore s x)
+zeros-store s stays z = z
+zeros-store s (becomes cs) z = zeros-of-store cs
 
 zeros-left : (g : Gate) (s : Says) → ZerosOf g → ZerosOf (left g s)
 unfolding left
@@ -164,7 +130,7 @@ zeros-run g (k ∷ ks) z = let n = zeros-left g (says (view g) k) z in (n, zeros
 
 zeros-new : (g : Gate) (settings : Settings) (methods : List Method) (count : ℕ) → ZerosOf (left g (says (view g) (newGateCall settings methods count)))
 unfolding left says
-zeros-new g settings methods count = (zeros-of-list [], zeros-of-list [])
+zeros-new g settings methods count = (zeros-of-list [], zeros-of-store [])
 
 pub zeros-past : ZerosPast
 unfolding gives

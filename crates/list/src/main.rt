@@ -14,9 +14,9 @@ fn print_listing(input: &[u8]) {
     os::fail(b"list: standard output");
 }
 
-// One byte more than a record may have, so that a longer input is known by its length.
+// One byte more than the listing takes, so that a longer input is known by its length.
 fn main() {
-    let mut buf = [0u8; 2049];
+    let mut buf = [0u8; 8193];
     match input::read_input(STDIN_FILENO, &mut buf) {
         Input::Bytes(n) => print_listing(&buf[..n]),
         Input::Failed => os::fail(b"list: standard input"),

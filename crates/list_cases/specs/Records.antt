@@ -21,9 +21,17 @@ unfoldable pub withRun : ℕ → ℕ → ℕ → Written → Written
 withRun b step zero w = w
 withRun b step (suc n) w = withRun ((b + step) % 2 ^ 8) step n (withByte b w)
 
+-- 32 times a byte, and the count
+unfoldable pub withDigest : ℕ → ℕ → Written → Written
+withDigest digest count w = withByte count (withRun digest 0 32 w)
+
 -- version 1, 32 times 0x11, and the count
 unfoldable pub withHead : ℕ → List ℕ → Written
-withHead count memory = withByte count (withRun 0x11 0 32 (withByte 1 (written memory 0)))
+withHead count memory = withDigest 0x11 count (withByte 1 (written memory 0))
+
+-- version 2, and the number of cars
+unfoldable pub withCars : ℕ → List ℕ → Written
+withCars n memory = withByte n (withByte 2 (written memory 0))
 
 -- an id of `len` bytes, which count up from `first`, behind its length
 unfoldable pub withPhone : ℕ → ℕ → Written → Written
@@ -33,3 +41,7 @@ withPhone first len w = withRun first 1 len (withByte len w)
 unfoldable pub withPhones : ℕ → ℕ → Written → Written
 withPhones zero len w = w
 withPhones (suc n) len w = withPhone n len (withPhones n len w)
+
+-- a car of version 2 with n of them
+unfoldable pub withCar : ℕ → ℕ → ℕ → Written → Written
+withCar digest n len w = withPhones n len (withDigest digest n w)

@@ -1,30 +1,16 @@
 -- Laws of what is written one after the other.
-use mathlib.Core.Path.{_≡_, refl, ap, sym, _∙_}
-use mathlib.Core.List.{List, [], _∷_, _++_, append-assoc, append-nil}
+use mathlib.Core.Path.{_≡_, refl, ap, _∙_}
+use mathlib.Core.List.{List, [], _∷_, _++_, append-nil}
 use Prim.Native.Nat.{ℕ, _+_, _≤_}
 use native.Mathlib.Nat.{add-zero, zero-add}
 use native.Mathlib.Omega.{arith}
-use lib.ListN.{length, take, drop, set, length-append, replicate, take-append-drop}
-use lib.Seq.{drop-drop}
+use lib.ListN.{length, take, length-append, replicate, take-append-drop}
 use Rattle.arrays.specs.Arrays.{padded, put}
-use Rattle.arrays.proofs.Laws.{put-take, put-drop, put-length, put-padded}
+use Rattle.arrays.proofs.Laws.{put-padded}
+use Rattle.phone_fields.proofs.Writing.{put-put}
 use Rattle.listing.specs.declared.Listing.{Listing}
 use Rattle.listing.specs.Listing.{line, listed}
 use Rattle.listing.specs.Walk.{Wrote}
-
-put-over : (d : List ℕ) (at : ℕ) (x y e : List ℕ) → take (at + length x) e ≡ take at d ++ x → drop (at + length x + length y) e ≡ drop (at + length x + length y) d
-    → put e (at + length x) y ≡ put d at (x ++ y)
-unfolding put
-put-over d at x y e t r =
-    let l : at + length (x ++ y) ≡ at + length x + length y = rw length-append (omega arith) in
-    rw (t, r, l, append-assoc (take at d) x y)
-
--- a second text right after the first
-pub put-put : (d : List ℕ) (at : ℕ) (x y : List ℕ) → at + length x + length y ≤ length d → put (put d at x) (at + length x) y ≡ put d at (x ++ y)
-put-put d at x y h =
-    let n = at + length x in
-    put-over d at x y (put d at x) (put-take d at x (omega arith))
-    (sym (drop-drop (length y) n (put d at x)) ∙ ap (drop (length y)) (put-drop d at x (omega arith)) ∙ drop-drop (length y) n d)
 
 pub put-nil : (d : List ℕ) (at : ℕ) → put d at [] ≡ d
 unfolding put
@@ -53,11 +39,11 @@ wrote-line d at name value d₁ from d₂ end d₃ e w v u h =
     wrote-more d at (name ++ value) d₂ end (10 ∷ []) d₃ e (wrote-more d at name d₁ from value d₂ end w v (omega arith)) u h
 
 -- what is written into zeros is a listing
-pub wrote-listed : (text bytes : List ℕ) (len : ℕ) → Wrote (replicate {A = ℕ} 2361 0) 0 text bytes len → _≡_ {A = Listing} (record { bytes = bytes; len = len }) (listed text)
+pub wrote-listed : (text bytes : List ℕ) (len : ℕ) → Wrote (replicate {A = ℕ} 9414 0) 0 text bytes len → _≡_ {A = Listing} (record { bytes = bytes; len = len }) (listed text)
 unfolding listed padded
 wrote-listed text bytes len w =
     let l : len ≡ length text = w .place ∙ zero-add (length text) in
-    rw (w .bytes, zeros, put-padded 2361 0 [] text, l)
+    rw (w .bytes, zeros, put-padded 9414 0 [] text, l)
   where
-    zeros : replicate {A = ℕ} 2361 0 ≡ padded 2361 0 []
+    zeros : replicate {A = ℕ} 9414 0 ≡ padded 9414 0 []
     zeros = refl

@@ -1,4 +1,5 @@
 pub mod Laws
 pub mod Walk
+pub mod Cars
 pub mod Record
 pub mod Cases

@@ -1,19 +1,29 @@
 // What the listing program prints for a record.
 use reader::Field;
+use saved_record::CarPhones;
 use saved_record::RecordVerdict;
+use saved_record::Store;
 ghost use mathlib.Core.Path.{_≡_};
 ghost use mathlib.Core.List.{[], _∷_};
 ghost use Prim.Native.Nat.{_+_, _≤_, _<_};
 ghost use lib.ListN.{length};
 ghost use Rattle.decimal.specs.Decimal.{decimalOf};
 ghost use Rattle.hex.specs.Hex.{hexOf};
-ghost use Rattle.listing.specs.Listing.{line, phoneLines, acceptedLines, refusedLines, listed, listingOf};
-ghost use Rattle.listing.specs.Walk.{Wrote, idsFrom};
+ghost use Rattle.saved_record.specs.SavedRecord.{carPart, carParts};
+ghost use Rattle.saved_record.specs.Store.{carOf, carsOf};
+ghost use Rattle.listing.specs.Listing.{line, phoneLines, carLines, acceptedLines, refusedLines, listed, listingOf};
+ghost use Rattle.listing.specs.Walk.{Wrote, WroteFrom, Stands, idsFrom, placeFrom, firstCar};
 
 // The lines with their length; zeros past it.
 pub struct Listing {
-    pub bytes: [u8; 2361],
+    pub bytes: [u8; 9414],
     pub len: usize,
+}
+
+// Where writing and reading stand.
+struct Places {
+    end: usize,
+    next: usize,
 }
 
 // Each `put_` function writes over `dst` from `at` on and answers the place after what it wrote.
@@ -55,65 +65,104 @@ fn put_number_line(dst: &mut [u8], at: usize, name: &[u8], n: u64) -> usize
     put_end(&mut *dst, end)
 }
 
-// The lines of the first `count` ids that a reader meets in `saved` from place 34 on.
-fn put_phones(dst: &mut [u8], at: usize, saved: &[u8], count: usize) -> usize
-    requires { ⌜ at + length (phoneLines (idsFrom count (now saved) 34)) ≤ length (now dst) ⌝ }
-    ensures { λ r. ⌜ Wrote (now (dst .entry)) at (phoneLines (idsFrom count (now (saved .entry)) 34)) (now (dst .exit)) r ⌝ }
+// The lines of the first `count` ids that a reader meets in `saved` from place `from` on; it tells the place after them, too.
+fn put_phones(dst: &mut [u8], at: usize, saved: &[u8], from: usize, count: usize) -> Places
+    requires { ⌜ at + length (phoneLines (idsFrom count (now saved) from)) ≤ length (now dst) ⌝ }
+    ensures { λ r. ⌜ WroteFrom (now (dst .entry)) at (phoneLines (idsFrom count (now (saved .entry)) from)) (now (dst .exit)) (placeFrom count (now (saved .entry)) from) r ⌝ }
 {
     let mut end = at;
-    let mut place = 34;
+    let mut next = from;
     let mut left = count;
     while 0 < left {
-        match reader::read_field(saved, place) {
-            Field::Whole { start, len, next } => {
+        match reader::read_field(saved, next) {
+            Field::Whole {
+                start,
+                len,
+                next: after,
+            } => {
                 end = put_hex_line(&mut *dst, end, b"phone=", &saved[start..start + len]);
-                place = next;
+                next = after;
                 left -= 1;
             }
-            Field::Short => return end,
-            Field::End => return end,
+            Field::Short => return Places { end, next },
+            Field::End => return Places { end, next },
         }
     }
-    end
+    Places { end, next }
+}
+
+// The lines of a car, whose part stands in `saved` from place `from` on; it tells the place after that part, too.
+fn put_car(dst: &mut [u8], at: usize, saved: &[u8], from: usize, c: CarPhones) -> Places
+    requires { ⌜ Stands (now saved) from (carPart (carOf c)) × (at + length (carLines (carOf c)) ≤ length (now dst)) ⌝ }
+    ensures { λ r. ⌜ WroteFrom (now (dst .entry)) at (carLines (carOf c)) (now (dst .exit)) (from + length (carPart (carOf c))) r ⌝ }
+{
+    let car = c.car;
+    let phones = c.phones;
+    let count = phones::count(phones);
+    let a = put_hex_line(&mut *dst, at, b"car=", &car);
+    let b = put_number_line(&mut *dst, a, b"phones=", count as u64);
+    put_phones(&mut *dst, b, saved, from + 33, count)
 }
 
 fn refused() -> Listing
     ensures { λ r. ⌜ r ≡ listed refusedLines ⌝ }
 {
-    let mut bytes = [0u8; 2361];
+    let mut bytes = [0u8; 9414];
     let len = put_text(&mut bytes, 0, b"answer=refused\n");
     Listing { bytes, len }
 }
 
-// The lines of a record that is accepted, with this digest and this many phones.
-fn accepted(saved: &[u8], car: [u8; 32], count: usize) -> Listing
-    requires { ⌜ length (acceptedLines car count (idsFrom count (now saved) 34)) ≤ 2361 ⌝ }
-    ensures { λ r. ⌜ r ≡ listed (acceptedLines car count (idsFrom count (now (saved .entry)) 34)) ⌝ }
+// The lines of a record that is accepted, with these cars, whose parts stand in it from place `from` on.
+fn accepted(saved: &[u8], from: usize, store: Store) -> Listing
+    requires { ⌜ Stands (now saved) from (carParts (carsOf store)) × (length (acceptedLines (carsOf store)) ≤ 9414) ⌝ }
+    ensures { λ r. ⌜ r ≡ listed (acceptedLines (carsOf store)) ⌝ }
 {
-    let mut bytes = [0u8; 2361];
-    let a = put_text(&mut bytes, 0, b"answer=ok\n");
-    let b = put_hex_line(&mut bytes, a, b"car=", &car);
-    let c = put_number_line(&mut bytes, b, b"phones=", count as u64);
-    let len = put_phones(&mut bytes, c, saved, count);
+    let n = saved_record::clamp_cars(store.count);
+    let cars = store.cars;
+    let mut bytes = [0u8; 9414];
+    let mut len = put_text(&mut bytes, 0, b"answer=ok\n");
+    let mut next = from;
+    let mut i = 0;
+    while i < n {
+        let car = cars[i];
+        let places = put_car(&mut bytes, len, saved, next, car);
+        len = places.end;
+        next = places.next;
+        i += 1;
+    }
     Listing { bytes, len }
 }
 
-// The lines of a record. A longer input than 2 KiB is refused by its length alone.
+// The place of the first car in a record: after the version, and in version 2 after the number of cars.
+fn first_car(saved: &[u8]) -> usize
+    ensures { λ r. ⌜ r ≡ firstCar (now (saved .entry)) ⌝ }
+{
+    if saved.len() == 0 {
+        return 0;
+    }
+    if saved[0] == 1 {
+        return 1;
+    }
+    2
+}
+
+// The lines of a record. A longer input than 8 KiB is refused by its length alone.
 pub fn list_record(input: &[u8]) -> Listing
     ensures { λ r. ⌜ r ≡ listingOf (now (input .entry)) ⌝ }
 {
-    if 2048 < input.len() {
+    if 8192 < input.len() {
         return refused();
     }
     let read = saved_record::decode_phone_validations(input);
     let answer = read.answer;
     match answer {
         RecordVerdict::Restored => {
-            let car = read.car;
-            let count = phones::count(read.phones);
-            accepted(input, car, count)
+            let store = read.store;
+            let from = first_car(input);
+            accepted(input, from, store)
         }
         RecordVerdict::Malformed => refused(),
+        RecordVerdict::CarTwice => refused(),
         RecordVerdict::TooLarge => refused(),
     }
 }

@@ -20,8 +20,7 @@ use Rattle.state.specs.declared.Outcome.{Outcome}
 use Rattle.state.specs.Running.{noMethod, cleanMethod}
 use Rattle.range.specs.Range.{settingsFit, methodsIn}
 use Rattle.state.specs.Replies.{noCar, noSignals, noCode}
-use Rattle.state.specs.View.{validationsOf}
-use Rattle.validations.specs.Store.{noStore}
+use Rattle.saved_record.specs.Store.{storeOf}
 use Rattle.probe_window.specs.Window.{noWindow}
 
 abbrev pub noSession : Session
@@ -71,7 +70,7 @@ abbrev pub madeGate : Made → Outcome
 madeGate m = record {
   answer = m .answer;
   signals = noSignals;
-  gate = record { core = m .core; phones = record { paired = listOf []; store = validationsOf noStore }; code = noCode };
+  gate = record { core = m .core; phones = record { paired = listOf []; store = storeOf [] }; code = noCode };
 }
 
 unfoldable pub newGate : Settings → List Method → ℕ → Outcome

@@ -1,35 +1,37 @@
 -- Which frames pass.
 use Prim.Native.Nat.{ℕ}
-use mathlib.Core.Path.{_≡_, refl, sym}
+use mathlib.Core.Path.{_≡_, refl}
 use mathlib.Core.Bool.{Bool, true, false, cond, not, _&&_, true≢false, and-eq-true-iff}
 use mathlib.Core.List.{List, [], _∷_}
 use mathlib.Core.Logic.{_↔_, _≢_}
 use native.Mathlib.Omega.{arith}
 use borrow.Author.Tests.{eq-eqb, ne-eqb, eqb-true, not-true}
-use lib.Dec.{eqb}
-use lib.ListN.{length}
-use Rattle.arrays.specs.Arrays.{sameBytes}
-use Rattle.arrays.proofs.Laws.{same-bytes-is}
+use lib.Dec.{eqb, ltb}
+use lib.ListN.{length, take}
+use Rattle.phones.specs.Ids.{someOf, allOf, contains}
+use Rattle.phones.specs.Phones.{listInRange}
 use Rattle.frames.specs.declared.CanFrame.{CanFrame}
 use Rattle.frames.specs.declared.TxClass.the-variants.{Platform, Command}
 use Rattle.frames.specs.Frames.{canIdInRange}
+use Rattle.saved_record.specs.SavedRecord.{twice}
+use Rattle.saved_record.specs.Store.{carsOf}
 use Rattle.state.specs.declared.Gate.{Gate}
 use Rattle.state.specs.declared.Answer.the-variants.{Yes, No, BadFrame, BadSettings}
 use Rattle.state.specs.declared.Said.{Said}
 use Rattle.state.specs.Replies.{noCode, leave, quiet, yesNo}
 use Rattle.state.specs.Checks.{checked}
-use Rattle.state.specs.View.{View, listsIn, view}
-use Rattle.range.specs.Range.{inRange}
-use Rattle.policy.specs.Policy.{isIdentified, isBusReadOnly}
-use Rattle.phone_trust.specs.Trust.{ofThisCar, isValidated}
+use Rattle.state.specs.View.{View, listsIn, view, carInRange, storeInRange}
+use Rattle.range.specs.Range.{coreFits, inRange}
+use Rattle.policy.specs.Policy.{fingerprintConfirmed, isBusReadOnly}
+use Rattle.phone_trust.specs.Trust.{validatedNow, isValidated}
 use Rattle.probe_window.specs.declared.Unsent.{Unsent}
 use Rattle.probe_window.specs.declared.Unsent.the-variants.{At, Nothing}
 use Rattle.probe_window.specs.Window.{isOpen, unsentIn}
 use Rattle.can_tx.specs.Tx.{passed, throughWindow, allowPlatform, allowsCommand, allow}
 use Rattle.answers.specs.Query.{plain}
 use Rattle.definition.specs.Gate.{saying, ofCore, asked, served, said, says, laidReply, gives, step}
-use Rattle.only_validated.specs.Row.{listed, Allowed, Sound, MayCommand, MaySend, readWrite, inWindow}
-use Rattle.only_validated.proofs.Stores.{untrue, cases}
+use Rattle.only_validated.specs.Row.{carNow, Allowed, Sound, MayCommand, MaySend, readWrite, inWindow}
+use Rattle.only_validated.proofs.Stores.{untrue, cases, for-listed, listed-for}
 
 -- ---- what an answer of yes tells
 
@@ -45,8 +47,23 @@ yes-true : (b : Bool) → yesNo b ≡ Yes → b ≡ true
 yes-true true e = refl
 yes-true false e = cc
 
-same-sym : (a b : List ℕ) → sameBytes a b ≡ true → sameBytes b a ≡ true
-same-sym a b e = same-bytes-is b a .1 (sym (same-bytes-is a b .0 e))
+-- ---- the car identified now
+
+-- nobody is validated now unless a car is known
+known-lists : (b : Bool) (owner : List ℕ) (ps : List (List ℕ)) → contains owner (cond b ps []) ≡ true → (b ≡ true) × (contains owner ps ≡ true)
+unfolding contains someOf
+known-lists true owner ps h = (refl, h)
+known-lists false owner ps h = untrue h
+
+-- in a gate in range no digest stands twice
+apart : (g : Gate) → inRange (view g) ≡ true → twice (carsOf (g .phones .store)) ≡ false
+unfolding inRange view storeInRange
+apart g h =
+    let s = g .phones .store in
+    cases (λ (b : Bool). b ≡ true → twice (carsOf s) ≡ false) (ltb 4 (s .count)) false _
+    (λ e. untrue)
+    (λ e k. not-true _ (and-eq-true-iff (allOf carInRange (take (s .count) (s .cars))) _ .0 k .1))
+    (and-eq-true-iff (coreFits (g .core) && listInRange (g .phones .paired)) _ .0 h .1)
 
 -- ---- a command
 
@@ -59,27 +76,28 @@ is-named (x ∷ xs) e = ne-eqb (length (x ∷ xs)) 0 (λ (z : length (x ∷ xs) 
 
 module _ (g : Gate) (bus : ℕ) (frame : CanFrame) (owner : List ℕ) (clock : ℕ) where
   command-needs : Allowed g bus frame Command owner clock → MayCommand g bus frame owner
-  unfolding step gives says served said view allow checked leave allowsCommand isValidated ofThisCar isIdentified listed
+  unfolding step gives says served said view allow checked leave allowsCommand isValidated validatedNow
   command-needs e =
       let s = sound-yes (view g) (inRange (view g)) (canIdInRange (frame .id)) _ e in
       let yes : allowsCommand (g .core .policy) bus frame (isValidated (g .core .policy .identity) (listsIn (g .phones)) owner) ≡ true = yes-true _ (s .2) in
       let t = simp and-eq-true-iff at yes in
       let v = t .1 in
+      let k = known-lists (fingerprintConfirmed (g .core .policy .identity)) owner _ (v .1) in
       record {
         sound = (s .0, s .1);
         forBus = eqb-true (frame .bus) bus (t .0 .0);
         readWrite = not-true _ (t .0 .1);
-        identified = v .0 .0 .0 .0;
-        named = named-is owner (not-true _ (v .0 .0 .1));
+        identified = k .0;
+        named = named-is owner (not-true _ (v .0 .0));
         paired = v .0 .1;
-        validated = rw (same-sym _ _ (v .0 .0 .0 .1), v .1);
+        validated = for-listed (carNow g) owner (carsOf (g .phones .store)) (k .1);
       }
 
   needs-command : MayCommand g bus frame owner → Allowed g bus frame Command owner clock
-  unfolding step gives says served said saying view allow checked leave allowsCommand isValidated ofThisCar isIdentified listed
+  unfolding step gives says served said saying view allow checked leave allowsCommand isValidated validatedNow
   needs-command m =
-      let l = and-eq-true-iff (sameBytes (g .phones .store .car) _) _ .0 (m .validated) in
-      rw (m .sound .0, m .sound .1, eq-eqb _ _ (m .forBus), m .readWrite, m .identified, same-sym _ _ (l .0), is-named owner (m .named), m .paired, l .1)
+      let l = listed-for (carNow g) owner (carsOf (g .phones .store)) (apart g (m .sound .0)) (m .validated) in
+      rw (m .sound .0, m .sound .1, eq-eqb _ _ (m .forBus), m .readWrite, m .identified, is-named owner (m .named), m .paired, l)
 
   pub command : Allowed g bus frame Command owner clock ↔ MayCommand g bus frame owner
   command = (command-needs, needs-command)

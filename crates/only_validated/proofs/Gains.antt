@@ -1,19 +1,20 @@
 -- Who becomes listed by a call. Sessions and records validate; by the other calls nobody becomes listed.
 use Prim.Native.Nat.{ℕ, _<_}
-use mathlib.Core.Path.{_≡_, refl, sym, ap, _∙_}
+use mathlib.Core.Path.{_≡_, refl, sym, _∙_}
 use mathlib.Core.Bool.{Bool, true, false, cond, not, _||_, and-eq-true-iff}
 use mathlib.Core.List.{List}
 use lib.Dec.{ltb}
 use borrow.Author.Tests.{eqb-true, ltb-true}
 use Rattle.arrays.proofs.Laws.{same-bytes-is}
-use Rattle.phones.specs.Ids.{someOf, removeAll, retainIn, Left, stays, becomes, afterwards}
+use Rattle.phones.specs.Ids.{someOf, Left, stays, becomes, afterwards}
 use Rattle.phones.specs.Phones.{idBytes}
-use Rattle.phones.proofs.Laws.{phones-of-list}
-use Rattle.saved_record.specs.SavedRecord.{decoded}
+use Rattle.saved_record.specs.declared.Store.{Store}
+use Rattle.saved_record.specs.SavedRecord.{CarIds, decoded}
+use Rattle.saved_record.specs.Store.{carsOf}
+use Rattle.saved_record.proofs.Laws.{cars-of-store}
 use Rattle.text.specs.Text.{isText, right}
 use Rattle.state.specs.declared.Kind.{Kind}
 use Rattle.state.specs.declared.Kind.the-variants.{CodeEntry, InCarAction}
-use Rattle.state.specs.declared.Validations.{Validations}
 use Rattle.state.specs.declared.Session.{Session}
 use Rattle.state.specs.declared.Core.{Core}
 use Rattle.state.specs.declared.Gate.{Gate}
@@ -23,20 +24,20 @@ use Rattle.state.specs.declared.Ended.{Ended}
 use Rattle.state.specs.Running.{isCode, inProgress, methodAt}
 use Rattle.state.specs.Replies.{finish}
 use Rattle.state.specs.Checks.{checked}
-use Rattle.state.specs.View.{Store, storeIn, listsIn, view, laidStore}
+use Rattle.state.specs.View.{listsIn, view, laidStore}
 use Rattle.range.specs.Range.{inRange}
 use Rattle.policy.specs.Policy.{isIdentified}
 use Rattle.pairing.specs.Pairing as Pairing
-use Rattle.validations.specs.Store.{storing, forgetting, pruning}
-use Rattle.validations.specs.Store as Store
+use Rattle.validations.specs.Store.{storing}
+use Rattle.validations.specs.Store as Validations
 use Rattle.session.specs.declared.Lapse.{Lapse}
 use Rattle.session.specs.Session.{endedAs, isOf, cannotGoOn, lapseOf}
 use Rattle.validation.specs.Calls as Validation
-use Rattle.definition.specs.Gate.{SessionCall, ListCall, Call, Says, saying, validates, empties, served, ended, listing, says, left, gives, step, after}
+use Rattle.definition.specs.Gate.{SessionCall, ListCall, Call, Says, saying, validates, served, ended, listing, says, left, gives, step, after}
 use Rattle.definition.specs.Gate as Gate
 use Rattle.footprint.proofs.Lists.{lists-keep}
 use Rattle.only_validated.specs.Row.{Listed, NotListed, session, Validates, byCode, byAction, byRecord}
-use Rattle.only_validated.proofs.Stores.{untrue, cases, Gains, gain-cond, gain-stays, gain-none, gain-kept, gain-validating, gain-restoring}
+use Rattle.only_validated.proofs.Stores.{untrue, cases, Gains, gain-stays, gain-none, gain-forgetting, gain-pruning, gain-validating, gain-restoring}
 
 -- ---- a session's call validates only a phone of which P holds
 
@@ -126,33 +127,29 @@ module _ (g : Gate) (phone typed : List ℕ) (clock : ℕ) where
 
 -- ---- every call
 
--- a list is laid with the ids that it is to have
-laid-is : (v : Validations) (y : Left Store) → storeIn (laidStore v y) ≡ afterwards (storeIn v) y
+-- a store is laid with the cars that it is to have
+laid-is : (v : Store) (y : Left (List CarIds)) → carsOf (laidStore v y) ≡ afterwards (carsOf v) y
 laid-is v stays = refl
-laid-is v (becomes s) = ap (λ (ps : List (List ℕ)). record { car = s .car; phones = ps }) (phones-of-list (s .phones))
+laid-is v (becomes cs) = cars-of-store cs
 
-module _ (P : List ℕ → List ℕ → Type 0) (s : Store) where
-  gain-ended : (x : Session) (b : Bool) → (b ≡ true → P (x .car) (idBytes (x .phone))) → Gains P s (validates s x b)
-  gain-ended x false k = gain-stays P s
-  gain-ended x true k = gain-validating P s (x .car) (idBytes (x .phone)) (k refl)
+module _ (P : List ℕ → List ℕ → Type 0) (cs : List CarIds) where
+  gain-ended : (x : Session) (b : Bool) → (b ≡ true → P (x .car) (idBytes (x .phone))) → Gains P cs (validates cs x b)
+  gain-ended x false k = gain-stays P cs
+  gain-ended x true k = gain-validating P cs (x .car) (idBytes (x .phone)) (k refl)
 
-  gain-emptied : (b : Bool) → Gains P s (empties b)
-  gain-emptied false = gain-stays P s
-  gain-emptied true = gain-none P s
-
-  gain-storing : (a : Answer) (x : Left (List (List ℕ))) (y : Left Store) → Gains P s y → Gains P s (storing a x y .store)
+  gain-storing : (a : Answer) (x : Left (List (List ℕ))) (y : Left (List CarIds)) → Gains P cs y → Gains P cs (storing a x y .store)
   gain-storing a x stays h = h
   gain-storing a x (becomes z) h = h
 
 module _ (g : Gate) where
-  gain-listing : (k : ListCall) → Gains (By g (Gate.onLists k)) (storeIn (g .phones .store)) (listing (listsIn (g .phones)) (g .core .settings .bonded) k .store)
-  unfolding listing view someOf removeAll retainIn Pairing.unpair Pairing.clear forgetting Store.forget pruning Store.prune Store.restore
+  gain-listing : (k : ListCall) → Gains (By g (Gate.onLists k)) (carsOf (g .phones .store)) (listing (listsIn (g .phones)) (g .core .settings .bonded) k .store)
+  unfolding listing view someOf Pairing.unpair Pairing.clear Validations.forget Validations.prune Validations.restore
   gain-listing (Gate.addPairedPhone id) = rw (lists-keep (listsIn (g .phones)) (g .core .settings .bonded) (Gate.addPairedPhone id) .store) (gain-stays _ _)
-  gain-listing (Gate.removePairedPhone id) = search (gain-storing, gain-cond, gain-stays, gain-kept)
+  gain-listing (Gate.removePairedPhone id) = search (gain-storing, gain-forgetting)
   gain-listing Gate.clearPairedPhones = gain-none _ _
-  gain-listing (Gate.forgetPhoneValidation id) = search (gain-storing, gain-cond, gain-stays, gain-kept)
-  gain-listing Gate.prunePhoneValidations = search (gain-storing, gain-cond, gain-stays, gain-kept)
-  gain-listing (Gate.restorePhoneValidations bytes) = gain-restoring _ _ (decoded bytes) (λ car phone ps e m. byRecord bytes ps e m)
+  gain-listing (Gate.forgetPhoneValidation id) = search (gain-storing, gain-forgetting)
+  gain-listing Gate.prunePhoneValidations = search (gain-storing, gain-pruning)
+  gain-listing (Gate.restorePhoneValidations bytes) = gain-restoring _ _ (decoded bytes) (λ car phone cs e m. byRecord bytes cs e m)
 
   gain-session : (full : Bool) (k : SessionCall) → Only (By g (Gate.onSession k)) (ended (g .core) full k)
   unfolding ended
@@ -164,21 +161,20 @@ module _ (g : Gate) where
   abbrev Served : Call → List ℕ → List ℕ → Type 0
   Served k car phone = (inRange (view g) ≡ true) × Validates g car phone k
 
-  gain-served : (k : Call) (s : Says) → Gains (By g k) (storeIn (g .phones .store)) (s .store) → Gains (Served k) (storeIn (g .phones .store)) (served (view g) s .store)
+  gain-served : (k : Call) (s : Says) → Gains (By g k) (carsOf (g .phones .store)) (s .store) → Gains (Served k) (carsOf (g .phones .store)) (served (view g) s .store)
   unfolding served
   gain-served k s h =
-      cases (λ (x : Says). Gains (Served k) (storeIn (g .phones .store)) (x .store)) (inRange (view g)) _ _
+      cases (λ (x : Says). Gains (Served k) (carsOf (g .phones .store)) (x .store)) (inRange (view g)) _ _
       (λ r. record { gains = λ car phone n l. (r, h .gains car phone n l) })
       (λ r. gain-stays _ _)
 
-  gain-call : (k : Call) → Gains (Served k) (storeIn (g .phones .store)) (says (view g) k .store)
+  gain-call : (k : Call) → Gains (Served k) (carsOf (g .phones .store)) (says (view g) k .store)
   unfolding says saying view
   gain-call (Gate.newGateCall settings methods count) = gain-none _ _
   gain-call (Gate.startValidation phone method clock random) = gain-served _ _ (gain-stays _ _)
   gain-call (Gate.submitValidationCode phone typed clock) = gain-served _ _ (gain-ended _ _ _ _ (only-submit g phone typed clock _ .only))
   gain-call (Gate.onSession k) = gain-served _ _ (gain-ended _ _ _ _ (gain-session _ k .only))
   gain-call (Gate.onLists k) = gain-served _ _ (gain-listing k)
-  gain-call Gate.approveCanReadWrite = gain-served _ _ (search gain-emptied)
   gain-call (Gate.onCore k) = gain-served _ _ (gain-stays _ _)
   gain-call (Gate.ask q) = gain-stays _ _
 

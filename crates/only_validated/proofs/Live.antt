@@ -1,5 +1,6 @@
 -- The row is about something: from a new gate a phone is validated in each of the three ways and its command passes; another phone's is
--- denied, and so is the same phone's before, after it is forgotten, and on another bike.
+-- denied, and so is the same phone's before, after it is forgotten, and on another bike; and back on its bike it passes again, also if
+-- another phone was validated on the other bike.
 use Prim.Native.Nat.{ℕ}
 use mathlib.Core.Path.{_≡_, refl}
 use mathlib.Core.Bool.{false}
@@ -7,7 +8,7 @@ use mathlib.Core.List.{List, [], _∷_, _++_}
 use lib.ListN.{replicate}
 use Rattle.arrays.specs.Arrays.{padded, sameBytes}
 use Rattle.phones.specs.declared.PhoneList.{PhoneList}
-use Rattle.phones.specs.Ids.{contains, joined, kept, pushed, removeAll, roomFor, someOf}
+use Rattle.phones.specs.Ids.{allOf, contains, joined, kept, pushed, removeAll, roomFor, someOf}
 use Rattle.phones.specs.Phones.{idBytes, idInRange, idOf, idsIn, listInRange, listOf, phonesOf, tooLong}
 use Rattle.frames.specs.declared.Id.the-variants.{Standard}
 use Rattle.frames.specs.declared.CanFrame.{CanFrame}
@@ -19,7 +20,8 @@ use Rattle.text.specs.Utf8.{decode, encode, encodeAll}
 use Rattle.text.specs.Text.{beginsDigit, isDigit, isDropped, isSeparator, isText, right, trim, trimFront, trimmed, ungrouped, ungroupedFrom, white}
 use Rattle.text.specs.Utf8 as Utf8
 use Rattle.phone_fields.specs.PhoneFields.{anyLong, before, field, fields, overLimits, readFields}
-use Rattle.saved_record.specs.SavedRecord.{decoded, decodedBody, encoded, judged, nothingAfter, readCounted, readPhones}
+use Rattle.saved_record.specs.SavedRecord.{CarIds, carPart, carParts, encoded, ofCar, readCounted, readAfter, readCar, readOn, readCars, readTwo, readVersion, nothingAfter, hasCar, twice, over, judged, decoded}
+use Rattle.saved_record.specs.Store.{carOf, laidCar, emptyCar, carsOf, storeOf}
 use Rattle.state.specs.declared.Kind.the-variants.{InCarAction}
 use Rattle.state.specs.declared.Method.{Method}
 use Rattle.state.specs.declared.Gate.{Gate}
@@ -28,7 +30,7 @@ use Rattle.state.specs.Running as Running
 use Rattle.state.specs.Checks.{checked}
 use Rattle.range.specs.Range as Range
 use Rattle.state.specs.Replies as Replies
-use Rattle.state.specs.View.{view, listsStay}
+use Rattle.state.specs.View.{view, carInRange, storeInRange, listsStay}
 use Rattle.policy.specs.Policy as Policy
 use Rattle.can_access.specs.Approval as Access
 use Rattle.dev_lock.specs.DevLock as DevLock
@@ -47,7 +49,7 @@ use Rattle.answers.specs.Query as Query
 use Rattle.answers.specs.Query.{Reply, plain}
 use Rattle.new_gate.specs.New as New
 use Rattle.definition.specs.Gate as Gate
-use Rattle.definition.specs.Gate.{Call, startValidation, submitValidationCode, onSession, onLists, approveCanReadWrite, onCore, ask, step, afterAll}
+use Rattle.definition.specs.Gate.{Call, startValidation, submitValidationCode, onSession, onLists, onCore, ask, step, afterAll}
 use Rattle.definition.specs.Cases.{settings, method, phone, start}
 use Rattle.only_validated.specs.Row.{carNow, WasValidated}
 use Rattle.only_validated.proofs.Proved.{only-validated}
@@ -71,14 +73,21 @@ other = 0xC3 ∷ 0xD4 ∷ []
 
 -- the host confirms the bike with this fingerprint, and its owner approves it
 abbrev onBike : List ℕ → List Call
-onBike fingerprint = onCore (Gate.confirmCarFingerprint fingerprint) ∷ approveCanReadWrite ∷ []
+onBike fingerprint = onCore (Gate.confirmCarFingerprint fingerprint) ∷ onCore Gate.approveCanReadWrite ∷ []
+
+-- two bikes
+abbrev bike : List Call
+bike = onBike (1 ∷ 2 ∷ 3 ∷ [])
+
+abbrev otherBike : List Call
+otherBike = onBike (4 ∷ [])
 
 -- a production build on a bike, its buses read-write, with both phones paired
 abbrev ready : List Call
 ready =
     onCore Gate.declareProductionBuild ∷
     onCore Gate.confirmCarIdentity ∷
-    onBike (1 ∷ 2 ∷ 3 ∷ []) ++
+    bike ++
     (onCore (Gate.setCanReadOnly false) ∷
     onLists (Gate.addPairedPhone phone) ∷
     onLists (Gate.addPairedPhone other) ∷ [])
@@ -87,16 +96,30 @@ ready =
 abbrev codeTyped : List Call
 codeTyped = start 1_000 ∷ submitValidationCode phone (49 ∷ 50 ∷ 32 ∷ 51 ∷ 52 ∷ []) 2_000 ∷ []
 
--- the phone starts a session, and the action is done in the car
-abbrev actionDone : List Call
-actionDone = startValidation phone act 1_000 [] ∷ onSession (Gate.completeValidationAction 1 2_000) ∷ []
+-- a phone starts a session, the gate's first or second, and the action is done in the car
+abbrev actionDone : List ℕ → ℕ → List Call
+actionDone owner number = startValidation owner act 2_100 [] ∷ onSession (Gate.completeValidationAction number 2_200) ∷ []
 
--- the host restores a record of this bike with the phone in it
-abbrev recordRestored : List Call
-recordRestored = onLists (Gate.restorePhoneValidations (encoded (carDigest 0 (1 ∷ 2 ∷ 3 ∷ []) .digest) (phone ∷ []))) ∷ []
+-- the host restores a record
+abbrev restored : List ℕ → List Call
+restored bytes = onLists (Gate.restorePhoneValidations bytes) ∷ []
+
+-- this bike, with the phone, as a record of either version
+abbrev stored : CarIds
+stored = record { car = carDigest 0 (1 ∷ 2 ∷ 3 ∷ []) .digest; phones = phone ∷ [] }
+
+abbrev versionTwo : List ℕ
+versionTwo = encoded (stored ∷ [])
+
+abbrev versionOne : List ℕ
+versionOne = 1 ∷ carPart stored
 
 abbrev forgotten : List Call
 forgotten = onLists (Gate.forgetPhoneValidation phone) ∷ []
+
+-- the phone is validated, then the other phone on the other bike, and the bike is back
+abbrev thereAndBack : List Call
+thereAndBack = ready ++ codeTyped ++ otherBike ++ actionDone other 2 ++ bike
 
 -- ---- what a command gets after these calls
 
@@ -112,29 +135,36 @@ readOnly ks = step (afterAll first ks) (ask (Query.isCanBusReadOnly 0)) .answer
 pub record Examples : Type 0 where
   -- validated in each of the three ways
   pub byCode : told (ready ++ codeTyped) phone ≡ plain Yes
-  pub byAction : told (ready ++ actionDone) phone ≡ plain Yes
-  pub byRecord : told (ready ++ recordRestored) phone ≡ plain Yes
+  pub byAction : told (ready ++ actionDone phone 1) phone ≡ plain Yes
+  pub byRecord : told (ready ++ restored versionTwo) phone ≡ plain Yes
+  pub byOldRecord : told (ready ++ restored versionOne) phone ≡ plain Yes
   -- another phone, paired too; no phone; the phone itself before it is validated, and after it is forgotten
   pub otherPhone : told (ready ++ codeTyped) other ≡ plain No
   pub noPhone : told (ready ++ codeTyped) [] ≡ plain No
   pub earlier : told ready phone ≡ plain No
   pub later : told (ready ++ codeTyped ++ forgotten) phone ≡ plain No
   -- the phone on another bike, whose bus is read-write
-  pub otherBike : told (ready ++ codeTyped ++ onBike (4 ∷ [])) phone ≡ plain No
-  pub otherBus : readOnly (ready ++ codeTyped ++ onBike (4 ∷ [])) ≡ plain No
+  pub away : told (ready ++ codeTyped ++ otherBike) phone ≡ plain No
+  pub awayBus : readOnly (ready ++ codeTyped ++ otherBike) ≡ plain No
+  -- back on its bike, after a success on the other one (W-207); who succeeded there is denied here
+  pub back : told thereAndBack phone ≡ plain Yes
+  pub backOther : told thereAndBack other ≡ plain No
 
 pub examples : Examples
-unfolding padded sameBytes contains idBytes idInRange idOf idsIn joined kept listInRange listOf phonesOf pushed removeAll roomFor someOf tooLong K padLast W rounds hashFrom sha256 domain carMessage carDigest digits drawLimit drawn firstBelow group decode encode encodeAll Utf8.within isText right trim trimFront trimmed white anyLong before decoded decodedBody encoded field fields judged overLimits readCounted readFields nothingAfter readPhones Range.within Range.settingsFit Range.allOf Range.printable Range.methodFits Range.allFit Range.methodsIn Range.methodsFit Running.methodAt Running.cleanMethod Running.inProgress Running.codeInProgress Range.triesFit Range.sessionFits Range.windowFits Range.coreFits Range.inRange view listsStay Replies.leave Replies.quiet Replies.reply Replies.notified Replies.finish Policy.fingerprintConfirmed Policy.isIdentified Policy.approvedCar Policy.allowsReadWrite Policy.isReadOnly Policy.isFdBus Policy.isBusReadOnly Changes.policyChanged Access.approve DevLock.declareProduction CarIdentity.confirmPlatform CarIdentity.confirmFingerprint Can.lockAsked Can.setReadOnly Trust.isPaired Trust.ofThisCar Trust.isValidated Store.storeOf Store.forgetting Store.forget Store.restore Store.isOfCar Store.isOfOtherCar Store.isFull Store.validating Pairing.pair Tx.allowsCommand Tx.allow Times.saturatingAdd Session.endedAs Session.isOf Session.lostReadWrite Session.noteAt Session.cannotGoOn Session.lapseOf Session.placeFrom Session.placeOf Times.nextNumber checked Validation.endSession Validation.runsFor Validation.startChecks Validation.newSession Validation.begin Validation.startAt Validation.start Validation.refilled Validation.succeededCore Validation.succeed Validation.rightCode Validation.judge Validation.submitted Validation.submit Validation.isAction Validation.completed Validation.complete Query.answerTo Answers.ifInRange New.newMethods New.newCore New.madeCore New.newGate Gate.saying Gate.served Gate.ended Gate.listing Gate.said Gate.says Gate.left Gate.gives step isDigit isSeparator beginsDigit isDropped ungroupedFrom ungrouped
+unfolding padded sameBytes contains idBytes idInRange idOf idsIn joined kept listInRange listOf phonesOf pushed removeAll roomFor someOf tooLong K padLast W rounds hashFrom sha256 domain carMessage carDigest digits drawLimit drawn firstBelow group decode encode encodeAll Utf8.within isText right trim trimFront trimmed white allOf anyLong before field fields overLimits readFields carPart carParts encoded ofCar readCounted readAfter readCar readOn readCars readTwo readVersion nothingAfter hasCar twice over judged decoded carOf laidCar emptyCar carsOf storeOf Range.within Range.settingsFit Range.printable Range.methodFits Range.allFit Range.methodsIn Range.methodsFit Running.methodAt Running.cleanMethod Running.inProgress Running.codeInProgress Range.triesFit Range.sessionFits Range.windowFits Range.coreFits Range.inRange view carInRange storeInRange listsStay Replies.leave Replies.quiet Replies.reply Replies.notified Replies.finish Policy.fingerprintConfirmed Policy.isIdentified Policy.approvedCar Policy.allowsReadWrite Policy.isReadOnly Policy.isFdBus Policy.isBusReadOnly Changes.policyChanged Access.approve DevLock.declareProduction CarIdentity.confirmPlatform CarIdentity.confirmFingerprint Can.lockAsked Can.setReadOnly Trust.isPaired Trust.validatedNow Trust.isValidated Store.withSome Store.underEvery Store.phonesFor Store.forgetting Store.forget Store.restore Store.isFull Store.displaced Store.validating Pairing.pair Tx.allowsCommand Tx.allow Times.saturatingAdd Session.endedAs Session.isOf Session.lostReadWrite Session.noteAt Session.cannotGoOn Session.lapseOf Session.placeFrom Session.placeOf Times.nextNumber checked Validation.endSession Validation.runsFor Validation.startChecks Validation.newSession Validation.begin Validation.startAt Validation.start Validation.refilled Validation.succeededCore Validation.succeed Validation.rightCode Validation.judge Validation.submitted Validation.submit Validation.isAction Validation.completed Validation.complete Query.answerTo Answers.ifInRange New.newMethods New.newCore New.madeCore New.newGate Gate.saying Gate.served Gate.ended Gate.listing Gate.said Gate.says Gate.left Gate.gives step isDigit isSeparator beginsDigit isDropped ungroupedFrom ungrouped
 examples = record {
   byCode = refl;
   byAction = refl;
   byRecord = refl;
+  byOldRecord = refl;
   otherPhone = refl;
   noPhone = refl;
   earlier = refl;
   later = refl;
-  otherBike = refl;
-  otherBus = refl;
+  away = refl;
+  awayBus = refl;
+  back = refl;
+  backOther = refl;
 }
 
 -- what the row says of the first

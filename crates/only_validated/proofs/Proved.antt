@@ -4,15 +4,16 @@ use mathlib.Core.Path.{_≡_, refl}
 use mathlib.Core.Bool.{Bool, true, false}
 use mathlib.Core.List.{List, [], _∷_}
 use mathlib.Core.Logic.{_⊎_, inl, inr}
-use Rattle.phones.proofs.Laws.{phones-of-list}
+use Rattle.phones.specs.Ids.{someOf}
+use Rattle.saved_record.specs.Store.{carsOf}
+use Rattle.saved_record.proofs.Laws.{cars-of-store}
 use Rattle.state.specs.declared.Method.{Method}
 use Rattle.state.specs.declared.Settings.{Settings}
 use Rattle.state.specs.declared.Gate.{Gate}
-use Rattle.state.specs.View.{storeIn}
 use Rattle.new_gate.specs.New.{newGate}
 use Rattle.definition.specs.Gate.{Call, after, afterAll}
 use Rattle.only_validated.specs.Row.{listed, Listed, NotListed, carNow, Stays, last, more, WasValidated, here, later, OnlyValidated}
-use Rattle.only_validated.proofs.Stores.{unlisted, none-listed}
+use Rattle.only_validated.proofs.Stores.{unlisted}
 use Rattle.only_validated.proofs.Frames.{command, platform}
 use Rattle.only_validated.proofs.Gains.{becomes-listed}
 
@@ -22,9 +23,9 @@ stays-first g ks (more l s) = l
 
 either : (car phone : List ℕ) (ks : List Call) (g : Gate) → Listed (afterAll g ks) car phone → Stays car phone g ks ⊎ WasValidated car phone g ks
 either car phone [] g l = inl (last l)
-either car phone (k ∷ ks) g l = go (either car phone ks (after g k) l) (listed (storeIn (g .phones .store)) car phone) refl
+either car phone (k ∷ ks) g l = go (either car phone ks (after g k) l) (listed (carsOf (g .phones .store)) car phone) refl
   where
-    go : Stays car phone (after g k) ks ⊎ WasValidated car phone (after g k) ks → (b : Bool) → listed (storeIn (g .phones .store)) car phone ≡ b
+    go : Stays car phone (after g k) ks ⊎ WasValidated car phone (after g k) ks → (b : Bool) → listed (carsOf (g .phones .store)) car phone ≡ b
         → Stays car phone g (k ∷ ks) ⊎ WasValidated car phone g (k ∷ ks)
     go (inr w) b e = inr (later w)
     go (inl s) true e = inl (more e s)
@@ -39,8 +40,8 @@ was-validated car phone ks g n l = go (either car phone ks g l)
 
 -- nobody is listed in a new gate
 new-none : (settings : Settings) (methods : List Method) (count : ℕ) (car phone : List ℕ) → NotListed (newGate settings methods count .gate) car phone
-unfolding newGate
-new-none settings methods count car phone = rw (phones-of-list []) (none-listed car phone)
+unfolding newGate listed someOf
+new-none settings methods count car phone = rw (cars-of-store [])
 
 pub only-validated : OnlyValidated
 only-validated = record {

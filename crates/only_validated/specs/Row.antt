@@ -6,13 +6,14 @@ use mathlib.Core.Bool.{Bool, true, false, _&&_}
 use mathlib.Core.List.{List, [], _∷_}
 use mathlib.Core.Logic.{_↔_, _≢_}
 use Rattle.arrays.specs.Arrays.{sameBytes}
-use Rattle.phones.specs.Ids.{contains}
+use Rattle.phones.specs.Ids.{someOf, contains}
 use Rattle.phones.specs.Phones.{idBytes}
 use Rattle.frames.specs.declared.CanFrame.{CanFrame}
 use Rattle.frames.specs.declared.TxClass.{TxClass}
 use Rattle.frames.specs.declared.TxClass.the-variants.{Platform, Command}
 use Rattle.frames.specs.Frames as Frames
-use Rattle.saved_record.specs.SavedRecord.{ok, decoded}
+use Rattle.saved_record.specs.SavedRecord.{CarIds, ok, decoded}
+use Rattle.saved_record.specs.Store.{carsOf}
 use Rattle.text.specs.Text.{right}
 use Rattle.state.specs.declared.Kind.{Kind}
 use Rattle.state.specs.declared.Kind.the-variants.{CodeEntry, InCarAction}
@@ -22,7 +23,7 @@ use Rattle.state.specs.declared.Session.{Session}
 use Rattle.state.specs.declared.Gate.{Gate}
 use Rattle.state.specs.declared.Answer.the-variants.{Yes}
 use Rattle.state.specs.Running.{inProgress, methodAt}
-use Rattle.state.specs.View.{Store, storeIn, listsIn, view}
+use Rattle.state.specs.View.{listsIn, view}
 use Rattle.range.specs.Range.{inRange}
 use Rattle.policy.specs.Policy.{fingerprintConfirmed, isIdentified, isBusReadOnly}
 use Rattle.phone_trust.specs.Trust.{isPaired}
@@ -34,17 +35,17 @@ use Rattle.definition.specs.Gate.{Call, submitValidationCode, onSession, comple
 
 -- ---- who is listed
 
--- the stored validations are of this car and list this phone
-unfoldable pub listed : Store → List ℕ → List ℕ → Bool
-listed s car phone = sameBytes (s .car) car && contains phone (s .phones)
+-- of these cars with their phones, one is this car and lists this phone
+unfoldable pub listed : List CarIds → List ℕ → List ℕ → Bool
+listed cs car phone = someOf (λ (c : CarIds). sameBytes (c .car) car && contains phone (c .phones)) cs
 
 -- the gate lists this phone for this car
 abbrev pub Listed : Gate → List ℕ → List ℕ → Type 0
-Listed g car phone = listed (storeIn (g .phones .store)) car phone ≡ true
+Listed g car phone = listed (carsOf (g .phones .store)) car phone ≡ true
 
--- they are of another car, or do not list it
+-- it does not store this car, or does not list this phone for it
 abbrev pub NotListed : Gate → List ℕ → List ℕ → Type 0
-NotListed g car phone = listed (storeIn (g .phones .store)) car phone ≡ false
+NotListed g car phone = listed (carsOf (g .phones .store)) car phone ≡ false
 
 -- the car that the gate knows now
 abbrev pub carNow : Gate → List ℕ
@@ -93,13 +94,13 @@ pub record Runs (g : Gate) (kind : Kind) (car phone : List ℕ) (clock : ℕ) : 
   pub inTime : clock < session g .deadline
 
 -- the call, made at the gate g, validates this phone for this car: the phone submits the gate's own code in its session; or the action in
--- the car is completed for its session; or the host restores its stored record of this car, which lists the phone
+-- the car is completed for its session; or the host restores its stored record, which lists the phone for this car
 pub data Validates (g : Gate) (car phone : List ℕ) : Call → Type 0 where
   byCode : (typed : List ℕ) (clock : ℕ) → Runs g CodeEntry car phone clock → right (g .code) (g .core .settings .digits) typed ≡ true
       → Validates g car phone (submitValidationCode phone typed clock)
   byAction : (number clock : ℕ) → Runs g InCarAction car phone clock → session g .number ≡ number
       → Validates g car phone (onSession (completeValidationAction number clock))
-  byRecord : (bytes : List ℕ) (phones : List (List ℕ)) → decoded bytes ≡ ok car phones → contains phone phones ≡ true
+  byRecord : (bytes : List ℕ) (cs : List CarIds) → decoded bytes ≡ ok cs → listed cs car phone ≡ true
       → Validates g car phone (onLists (restorePhoneValidations bytes))
 
 -- ---- runs

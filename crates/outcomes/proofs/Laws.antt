@@ -4,8 +4,10 @@ use mathlib.Core.Bool.{Bool, true, false, cond}
 use mathlib.Core.List.{List}
 use Prim.Native.Nat.{ℕ}
 use Rattle.phones.specs.Ids.{Left, stays, becomes, afterwards}
-use Rattle.phones.proofs.Laws.{phones-of-list}
-use Rattle.state.specs.declared.Validations.{Validations}
+use Rattle.saved_record.specs.declared.Store.{Store}
+use Rattle.saved_record.specs.SavedRecord.{CarIds}
+use Rattle.saved_record.specs.Store.{carsOf}
+use Rattle.saved_record.proofs.Laws.{cars-of-store}
 use Rattle.state.specs.declared.Phones.{Phones}
 use Rattle.state.specs.declared.Gate.{Gate}
 use Rattle.state.specs.declared.Said.{Said}
@@ -14,19 +16,18 @@ use Rattle.state.specs.declared.Listed.{Listed}
 use Rattle.state.specs.declared.Outcome.{Outcome}
 use Rattle.state.specs.declared.Answer.the-variants.{BadSettings}
 use Rattle.state.specs.Replies.{noS, nothingRaised, sending, leave, noCode, codeAt, showing}
-use Rattle.state.specs.View.{Store, View, Listing, view, storeIn, listsIn, listsStay, laidStore, listedIn}
+use Rattle.state.specs.View.{View, Listing, view, listsIn, listsStay, laidStore, listedIn}
 use Rattle.range.specs.Range.{inRange}
 use Rattle.answers.specs.Query.{plain}
-use Rattle.can_access.specs.declared.Approved.{Approved}
 use Rattle.validation.specs.Calls.{unvalidated}
-use Rattle.definition.specs.Gate.{SessionCall, ListCall, CoreCall, onSession, onLists, onCore, saying, ofCore, ofSession, ofApproval, ofLists, asked, served, ended, listing, said, fullFor, says, left, gives, packed, step, given}
-use Rattle.outcomes.specs.Served.{outOfRange, saidOn, endedOn, approvedOn, listedOn}
+use Rattle.definition.specs.Gate.{SessionCall, ListCall, CoreCall, onSession, onLists, onCore, saying, ofCore, ofSession, ofLists, asked, served, ended, listing, said, fullFor, says, left, gives, packed, step, given}
+use Rattle.outcomes.specs.Served.{outOfRange, saidOn, endedOn, listedOn}
 use Rattle.outcomes.specs.Settled.{put, storedIf, Settles}
 
 -- the store that is left holds what becomes of it
-pub store-after : (v : Validations) (x : Left Store) → storeIn (laidStore v x) ≡ afterwards (storeIn v) x
+pub store-after : (v : Store) (x : Left (List CarIds)) → carsOf (laidStore v x) ≡ afterwards (carsOf v) x
 store-after v stays = refl
-store-after v (becomes s) = rw (phones-of-list (s .phones))
+store-after v (becomes cs) = cars-of-store cs
 
 -- ---- what is put together
 
@@ -35,13 +36,13 @@ pub put-core : (g : Gate) (drawn : List ℕ) (o : Said)
 unfolding put gives saying left view
 put-core g drawn o = refl
 
-pub put-stored : (g : Gate) (o : Said) (stores : Bool) (v : Validations) (x : Left Store) → v ≡ laidStore (g .phones .store) x
-    → given (put (g .code) noCode o (record { paired = g .phones .paired; store = v }) (sending (showing (codeAt (g .code) noCode (o .shows)) (o .raised)) (storedIf stores (storeIn v)))) ≡ gives packed g (saying (view g) noCode o stores x)
+pub put-stored : (g : Gate) (o : Said) (stores : Bool) (v : Store) (x : Left (List CarIds)) → v ≡ laidStore (g .phones .store) x
+    → given (put (g .code) noCode o (record { paired = g .phones .paired; store = v }) (sending (showing (codeAt (g .code) noCode (o .shows)) (o .raised)) (storedIf stores (carsOf v)))) ≡ gives packed g (saying (view g) noCode o stores x)
 unfolding put gives saying left view
 put-stored g o stores v x e = rw (e, store-after (g .phones .store) x)
 
 pub put-lists : (g : Gate) (d : Listing) (x : Listed) → x ≡ listedIn (g .phones) d
-    → given (record { answer = x .answer; signals = sending (x .raised) (storedIf (x .stores) (storeIn (x .phones .store))); gate = record { core = g .core; phones = x .phones; code = g .code } })
+    → given (record { answer = x .answer; signals = sending (x .raised) (storedIf (x .stores) (carsOf (x .phones .store))); gate = record { core = g .core; phones = x .phones; code = g .code } })
     ≡ gives packed g (ofLists (view g) d)
 unfolding gives left view
 put-lists g d x e = rw (e, store-after (g .phones .store) (d .store))
@@ -58,11 +59,6 @@ module _ (v : View) where
   unfolding saying leave nothingRaised
   session-or true e = refl
   session-or false e = refl
-
-  approval-or : (b : Bool) (a : Approved) → cond b (ofApproval v a) (asked v (plain BadSettings)) ≡ ofApproval v (cond b a (record { said = outOfRange (v .core); empties = false }))
-  unfolding saying leave nothingRaised
-  approval-or true a = refl
-  approval-or false a = refl
 
   lists-or : (b : Bool) (d : Listing) → cond b (ofLists v d) (asked v (plain BadSettings)) ≡ ofLists v (cond b d (listsStay nothingRaised BadSettings))
   unfolding listsStay
@@ -94,11 +90,6 @@ module _ (g : Gate) where
   pub by-session : (k : SessionCall) (o p : Ended) (r : Outcome) → o ≡ ended (g .core) (fullFor (view g)) k → p ≡ endedOn (view g) o → given r ≡ gives packed g (ofSession (view g) p) → given r ≡ step g (onSession k)
   unfolding step says view
   by-session k o p r f q z = by-ended p (ended (g .core) (fullFor (view g)) k) r (q ∙ ap (endedOn (view g)) f) z
-
-  -- an approval
-  pub by-approval : (p o : Approved) (r : Outcome) → p ≡ approvedOn (view g) o → given r ≡ gives packed g (ofApproval (view g) p) → given r ≡ gives packed g (served (view g) (ofApproval (view g) o))
-  unfolding served approvedOn
-  by-approval p o r f z = z ∙ ap (λ (t : Approved). gives packed g (ofApproval (view g) t)) f ∙ sym (ap (gives packed g) (approval-or (view g) (inRange (view g)) o))
 
   -- an operation on the lists
   pub by-lists : (k : ListCall) (x p : Listed) (r : Outcome) → x ≡ listedIn (g .phones) (listing (listsIn (g .phones)) (g .core .settings .bonded) k) → p ≡ listedOn g x → Settles g p r → given r ≡ step g (onLists k)

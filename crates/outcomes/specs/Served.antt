@@ -1,5 +1,5 @@
 -- 25 before everything: on a gate out of range, each kind of operation as one that answers 25 and leaves all as it is.
-use mathlib.Core.Bool.{false, cond}
+use mathlib.Core.Bool.{cond}
 use Rattle.state.specs.declared.Core.{Core}
 use Rattle.state.specs.declared.Gate.{Gate}
 use Rattle.state.specs.declared.Answer.the-variants.{BadSettings}
@@ -9,7 +9,6 @@ use Rattle.state.specs.declared.Listed.{Listed}
 use Rattle.state.specs.Replies.{nothingRaised, leave}
 use Rattle.state.specs.View.{View, view, listsStay, listedIn}
 use Rattle.range.specs.Range.{inRange}
-use Rattle.can_access.specs.declared.Approved.{Approved}
 use Rattle.validation.specs.Calls.{unvalidated}
 
 abbrev pub outOfRange : Core → Said
@@ -20,9 +19,6 @@ saidOn v o = cond (inRange v) o (outOfRange (v .core))
 
 unfoldable pub endedOn : View → Ended → Ended
 endedOn v e = cond (inRange v) e (unvalidated (outOfRange (v .core)))
-
-unfoldable pub approvedOn : View → Approved → Approved
-approvedOn v a = cond (inRange v) a (record { said = outOfRange (v .core); empties = false })
 
 unfoldable pub listedOn : Gate → Listed → Listed
 listedOn g x = cond (inRange (view g)) x (listedIn (g .phones) (listsStay nothingRaised BadSettings))

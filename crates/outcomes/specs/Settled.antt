@@ -3,8 +3,7 @@ use mathlib.Core.Path.{_≡_}
 use mathlib.Core.Bool.{Bool, cond}
 use mathlib.Core.List.{List}
 use Prim.Native.Nat.{ℕ}
-use Rattle.phones.specs.Ids.{Left}
-use Rattle.state.specs.declared.Validations.{Validations}
+use Rattle.saved_record.specs.SavedRecord.{CarIds}
 use Rattle.state.specs.declared.ValidationsSignal.{ValidationsSignal}
 use Rattle.state.specs.declared.Phones.{Phones}
 use Rattle.state.specs.declared.Gate.{Gate}
@@ -12,10 +11,10 @@ use Rattle.state.specs.declared.Said.{Said}
 use Rattle.state.specs.declared.Listed.{Listed}
 use Rattle.state.specs.declared.Signals.{Signals}
 use Rattle.state.specs.declared.Outcome.{Outcome}
-use Rattle.state.specs.Replies.{noS, sentS, noCode, codeAt}
-use Rattle.state.specs.View.{Store, Listing, view, laidStore, listedIn}
+use Rattle.state.specs.Replies.{noS, sentS, codeAt}
+use Rattle.state.specs.View.{Listing, view, listedIn}
 use Rattle.validations.specs.Store.{recordFor}
-use Rattle.definition.specs.Gate.{saying, ofLists, gives, packed, given}
+use Rattle.definition.specs.Gate.{ofLists, gives, packed, given}
 
 -- what an operation on the core says, with the digits where it marks them, and the lists and the signals beside it
 unfoldable pub put : List ℕ → List ℕ → Said → Phones → Signals → Outcome
@@ -26,12 +25,8 @@ put held drawn o p s = record {
 }
 
 -- S, if it is sent
-abbrev pub storedIf : Bool → Store → ValidationsSignal
-storedIf stores s = cond stores (sentS (recordFor s)) noS
-
--- a store that is laid down already, whatever became of it; it is sent or not
-abbrev pub Stores : Gate → Said → Bool → Validations → Outcome → Type 0
-Stores g o stores v r = (x : Left Store) → v ≡ laidStore (g .phones .store) x → given r ≡ gives packed g (saying (view g) noCode o stores x)
+abbrev pub storedIf : Bool → List CarIds → ValidationsSignal
+storedIf stores cs = cond stores (sentS (recordFor cs)) noS
 
 -- lists that are laid down already, whatever operation left them
 abbrev pub Settles : Gate → Listed → Outcome → Type 0

@@ -1,7 +1,7 @@
 // What a call gives, put together from what its operation says: the gate that it leaves, and its signals. S is made here and
 // nowhere else, of the store that is left. On a gate out of range the operation counts as one that answers 25 and leaves all as it is.
 // A gate is put together from its parts, each copied once.
-use can_access::Approved;
+use saved_record::Store;
 use state::Answer;
 use state::Core;
 use state::Ended;
@@ -12,16 +12,16 @@ use state::Phones;
 use state::Raised;
 use state::Said;
 use state::Signals;
-use state::Validations;
 use state::ValidationsSignal;
 ghost use mathlib.Core.Path.{_≡_};
 ghost use Rattle.state.specs.declared.Answer.the-variants.{BadSettings};
 ghost use Rattle.state.specs.Replies.{nothingRaised, noCode, sentS, codeAt, showing};
-ghost use Rattle.state.specs.View.{view, storeIn, laidStore, listsStay, listedIn};
+ghost use Rattle.state.specs.View.{view, laidStore, listsStay, listedIn};
+ghost use Rattle.saved_record.specs.Store.{carsOf};
 ghost use Rattle.validations.specs.Store.{recordFor};
-ghost use Rattle.definition.specs.Gate.{validates, empties, ofCore, ofSession, ofApproval, gives, packed, given};
-ghost use Rattle.outcomes.specs.Served.{saidOn, endedOn, approvedOn, listedOn, outOfRange};
-ghost use Rattle.outcomes.specs.Settled.{storedIf, Stores, Settles};
+ghost use Rattle.definition.specs.Gate.{validates, ofCore, ofSession, gives, packed, given};
+ghost use Rattle.outcomes.specs.Served.{saidOn, endedOn, listedOn, outOfRange};
+ghost use Rattle.outcomes.specs.Settled.{storedIf, Settles};
 ghost use Rattle.outcomes.specs.Settled as Settled;
 
 // 25, as an operation on the core says it.
@@ -54,21 +54,6 @@ pub fn ended_on(g: Gate, e: Ended) -> Ended
     validation::ends::unvalidated(said)
 }
 
-// The same of an approval.
-pub fn approved_on(g: Gate, a: Approved) -> Approved
-    ensures { λ r. ⌜ r ≡ approvedOn (view g) a ⌝ }
-{
-    if range::in_range(g) {
-        return a;
-    }
-    let core = g.core;
-    let said = out_of_range(core);
-    Approved {
-        said,
-        empties: false,
-    }
-}
-
 // 25, as an operation on the lists gives it.
 pub fn lists_out_of_range(phones: Phones) -> Listed
     ensures { λ r. ⌜ r ≡ listedIn phones (listsStay nothingRaised BadSettings) ⌝ }
@@ -94,8 +79,8 @@ pub fn listed_on(g: Gate, x: Listed) -> Listed
 }
 
 // S, with the record of a store.
-fn stored(v: Validations) -> ValidationsSignal
-    ensures { λ r. ⌜ r ≡ sentS (recordFor (storeIn v)) ⌝ }
+fn stored(v: Store) -> ValidationsSignal
+    ensures { λ r. ⌜ r ≡ sentS (recordFor (carsOf v)) ⌝ }
 {
     let stored = validations::record_for(v);
     ValidationsSignal { sent: true, stored }
@@ -128,8 +113,8 @@ fn put(held: [u8; 9], drawn: [u8; 9], said: Said, phones: Phones, signals: Signa
 }
 
 // S, if it is sent.
-fn stored_if(stores: bool, v: Validations) -> ValidationsSignal
-    ensures { λ r. ⌜ r ≡ storedIf stores (storeIn v) ⌝ }
+fn stored_if(stores: bool, v: Store) -> ValidationsSignal
+    ensures { λ r. ⌜ r ≡ storedIf stores (carsOf v) ⌝ }
 {
     if stores {
         return stored(v);
@@ -157,23 +142,9 @@ pub fn settled(g: Gate, said: Said) -> Outcome
     drew(g, none, said)
 }
 
-// The same with this store, which is sent or not.
-fn settled_with(g: Gate, said: Said, stores: bool, store: Validations) -> Outcome
-    ensures { λ r. ⌜ Stores g said stores store r ⌝ }
-{
-    let held = g.code;
-    let none = [0u8; 9];
-    let raised = raised_by(held, none, said);
-    let s = stored_if(stores, store);
-    let signals = state::replies::sending(raised, s);
-    let paired = g.phones.paired;
-    let phones = Phones { paired, store };
-    put(held, none, said, phones, signals)
-}
-
 // The store after a session's call: where it succeeds, its phone is validated for its car.
-fn validated_by(v: Validations, e: Ended) -> Validations
-    ensures { λ r. ⌜ r ≡ laidStore v (validates (storeIn v) (e .said .core .validation .session) (e .validates)) ⌝ }
+fn validated_by(v: Store, e: Ended) -> Store
+    ensures { λ r. ⌜ r ≡ laidStore v (validates (carsOf v) (e .said .core .validation .session) (e .validates)) ⌝ }
 {
     if e.validates {
         let session = e.said.core.validation.session;
@@ -184,34 +155,21 @@ fn validated_by(v: Validations, e: Ended) -> Validations
     v
 }
 
-// What an operation on a session says.
+// What an operation on a session says. S is sent where the session succeeds.
 pub fn ended(g: Gate, e: Ended) -> Outcome
     ensures { λ r. ⌜ given r ≡ gives packed g (ofSession (view g) e) ⌝ }
 {
     let before = g.phones.store;
     let store = validated_by(before, e);
     let said = e.said;
-    settled_with(g, said, e.validates, store)
-}
-
-// The store after an approval.
-fn emptied_by(v: Validations, a: Approved) -> Validations
-    ensures { λ r. ⌜ r ≡ laidStore v (empties (a .empties)) ⌝ }
-{
-    if a.empties {
-        return validations::no_validations();
-    }
-    v
-}
-
-// What an approval says.
-pub fn approved(g: Gate, a: Approved) -> Outcome
-    ensures { λ r. ⌜ given r ≡ gives packed g (ofApproval (view g) a) ⌝ }
-{
-    let before = g.phones.store;
-    let store = emptied_by(before, a);
-    let said = a.said;
-    settled_with(g, said, a.empties, store)
+    let held = g.code;
+    let none = [0u8; 9];
+    let raised = raised_by(held, none, said);
+    let s = stored_if(e.validates, store);
+    let signals = state::replies::sending(raised, s);
+    let paired = g.phones.paired;
+    let phones = Phones { paired, store };
+    put(held, none, said, phones, signals)
 }
 
 // What an operation on the lists gives.

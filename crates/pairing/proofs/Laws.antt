@@ -13,7 +13,8 @@ use Rattle.phones.specs.Ids.{Left, stays, becomes}
 use Rattle.phones.specs.Phones.{listOf}
 use Rattle.state.specs.declared.Answer.{Answer}
 use Rattle.state.specs.declared.Phones.{Phones}
-use Rattle.state.specs.View.{Store, listedIn}
+use Rattle.state.specs.View.{listedIn}
+use Rattle.saved_record.specs.SavedRecord.{CarIds}
 use Rattle.validations.specs.Store.{storing}
 
 ok-tells : (t : Bool) (m : MadeId) (a b : ShortId) → m ≡ cond t (record { ok = false; id = a }) (record { ok = true; id = b }) → m .ok ≡ true → t ≡ false
@@ -44,7 +45,7 @@ pub made-bytes : (m : MadeId) (s : List ℕ) → m ≡ madeId s → m .ok ≡ tr
 made-bytes m s e ok = ap idBytes (made-id m s e ok) ∙ bytes-of-id s
 
 -- the pairings are laid down first, then what becomes of the store
-pub paired-first : (p : Phones) (a : Answer) (ps : List (List ℕ)) (x : Left Store)
+pub paired-first : (p : Phones) (a : Answer) (ps : List (List ℕ)) (x : Left (List CarIds))
     → listedIn (record { paired = listOf ps; store = p .store }) (storing a stays x) ≡ listedIn p (storing a (becomes ps) x)
 paired-first p a ps stays = refl
 paired-first p a ps (becomes s) = refl

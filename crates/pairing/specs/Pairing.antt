@@ -14,7 +14,7 @@ use Rattle.state.specs.Parts.{withPeer}
 use Rattle.state.specs.Replies.{nothingRaised, phoneAccessChanged, leave, quiet, notified, yesNo}
 use Rattle.state.specs.Checks.{_refuses_, checked}
 use Rattle.state.specs.View.{Lists, Listing, listsStay}
-use Rattle.validations.specs.Store.{noStore, storing, forgetting}
+use Rattle.validations.specs.Store.{storing, forgetting}
 
 -- ---- pairings
 
@@ -37,16 +37,16 @@ unpairing paired id = cond (contains id paired) (becomes (removeFirst id paired)
 unfoldable pub unpair : Lists → List ℕ → Listing
 unpair l id = storing (yesNo (contains id (l .paired))) (unpairing (l .paired) id) (forgetting (l .store) id)
 
--- clear_paired_phones: both lists are emptied; S A V if there were validations
+-- clear_paired_phones: no pairing and no car is left; S A V if there was a car
 unfoldable pub clear : Lists → Listing
 clear l =
-    let were = ltb 0 (length (l .store .phones)) in
+    let were = ltb 0 (length (l .store)) in
     record {
       answer = Count (length (l .paired));
       raised = cond were phoneAccessChanged nothingRaised;
       stores = were;
       paired = becomes [];
-      store = becomes noStore;
+      store = becomes [];
     }
 
 -- ---- the connected phone

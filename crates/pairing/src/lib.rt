@@ -67,14 +67,15 @@ pub fn clear_paired_phones(p: Phones) -> Listed
 {
     let paired = p.paired;
     let answer = Answer::Count(phones::count(paired));
-    let validated = p.store.phones;
+    let old = p.store;
+    let cars = validations::car_count(old);
     let none = phones::empty_list();
     let store = validations::no_validations();
     let phones = Phones {
         paired: none,
         store,
     };
-    if 0 < phones::count(validated) {
+    if 0 < cars {
         let raised = state::replies::phone_access_changed();
         return Listed {
             answer,

@@ -15,7 +15,7 @@ use Rattle.phones.specs.Phones.{listOf}
 use Rattle.phones.proofs.Build.{Built, built-none, built-list, built-more}
 use Rattle.phone_fields.specs.declared.FieldsVerdict.the-variants.{Whole, Malformed}
 use Rattle.phone_fields.specs.declared.FieldsRead.{FieldsRead}
-use Rattle.phone_fields.specs.PhoneFields.{PhonesRead, notWhole, whole, before, readFields, anyLong, overLimits, noList, fieldsRead}
+use Rattle.phone_fields.specs.PhoneFields.{Read, PhonesRead, notWhole, whole, before, readFields, anyLong, overLimits, noList, fieldsRead}
 use Rattle.phone_fields.specs.Steps.{firstLength, onlyChecked}
 use Rattle.phone_fields.proofs.Laws.{ReadFields, refused, are, fields-read}
 
@@ -116,25 +116,25 @@ too-many total count s h = go (fields-read count s)
 
 -- ---- the phones read so far
 
--- some phones in front of those that were read after them
-unfoldable pub after : List (List ℕ) → PhonesRead → PhonesRead
+-- some in front of those that were read after them
+unfoldable pub after : {A : Type 0} → List A → Read (List A) → Read (List A)
 after [] o = o
-after (p ∷ ps) o = before p (after ps o)
+after (x ∷ xs) o = before x (after xs o)
 
-after-one : (ps : List (List ℕ)) (p : List ℕ) (o : PhonesRead) → after ps (before p o) ≡ after (ps ++ (p ∷ [])) o
+pub after-one : {A : Type 0} (xs : List A) (x : A) (o : Read (List A)) → after xs (before x o) ≡ after (xs ++ (x ∷ [])) o
 unfolding after
-after-one [] p o = refl
-after-one (q ∷ ps) p o = rw (after-one ps p o)
+after-one [] x o = refl
+after-one (y ∷ xs) x o = rw (after-one xs x o)
 
-pub after-none : (ps : List (List ℕ)) → after ps notWhole ≡ notWhole
+pub after-none : {A : Type 0} (xs : List A) → after xs notWhole ≡ notWhole
 unfolding after before
 after-none [] = refl
-after-none (p ∷ ps) = rw (after-none ps)
+after-none (x ∷ xs) = rw (after-none xs)
 
-after-whole : (ps qs : List (List ℕ)) (rest : List ℕ) → after ps (whole qs rest) ≡ whole (ps ++ qs) rest
+pub after-whole : {A : Type 0} (xs ys : List A) (rest : List ℕ) → after xs (whole ys rest) ≡ whole (xs ++ ys) rest
 unfolding after before
-after-whole [] qs rest = refl
-after-whole (p ∷ ps) qs rest = rw (after-whole ps qs rest)
+after-whole [] ys rest = refl
+after-whole (x ∷ xs) ys rest = rw (after-whole xs ys rest)
 
 -- ---- the limit on an id
 

@@ -10,19 +10,24 @@ use Rattle.arrays.specs.Arrays.{put}
 use Rattle.arrays.proofs.Laws.{put-take, put-drop, put-length}
 use Rattle.phone_fields.specs.PhoneFields.{field, fields}
 
+-- a byte, and a string right after it
+pub put-byte : (d : List ℕ) (at n : ℕ) (s : List ℕ) → at < length d → put (set d at n) (at + 1) s ≡ put d at (n ∷ s)
+unfolding put
+put-byte d at n s h =
+    let e : at + 1 + length s ≡ at + suc (length s) = omega arith in
+    rw (e, drop-set-lt (at + suc (length s)) d at n (omega arith), add-one, take-suc-set d at n h, append-assoc (take at d) (n ∷ []) s)
+
 -- a phone: its length, and its bytes right after it
 pub put-field : (d : List ℕ) (at : ℕ) (s : List ℕ) → at < length d → put (set d at (length s)) (at + 1) s ≡ put d at (field s)
-unfolding put field
-put-field d at s h =
-    let e : at + 1 + length s ≡ at + suc (length s) = omega arith in
-    rw (e, drop-set-lt (at + suc (length s)) d at (length s) (omega arith), add-one, take-suc-set d at (length s) h, append-assoc (take at d) (length s ∷ []) s)
+unfolding field
+put-field d at s h = put-byte d at (length s) s h
 
 pub field-length : (at : ℕ) (s : List ℕ) → at + 1 + length s ≡ at + length (field s)
 unfolding field
 field-length at s = omega arith
 
 -- a string right after one that was written
-put-put : (d : List ℕ) (at : ℕ) (s t : List ℕ) → at + length s ≤ length d → put (put d at s) (at + length s) t ≡ put d at (s ++ t)
+pub put-put : (d : List ℕ) (at : ℕ) (s t : List ℕ) → at + length s ≤ length d → put (put d at s) (at + length s) t ≡ put d at (s ++ t)
 unfolding put
 put-put d at s t h =
     let e : at + length s + length t ≡ at + length (s ++ t) = rw length-append (omega arith) in

@@ -22,15 +22,19 @@ fields (p ∷ ps) = field p ++ fields ps
 
 -- ---- reading
 
--- some phones are not whole, or are these, and this remains of the record after them
-pub data PhonesRead : Type 0 where
-  notWhole : PhonesRead
-  whole : List (List ℕ) → List ℕ → PhonesRead
+-- what is read is not whole, or is this, and this remains of the record after it
+pub data Read (A : Type 0) : Type 0 where
+  notWhole : Read A
+  whole : A → List ℕ → Read A
 
--- a phone in front of those that were read after it
-unfoldable pub before : List ℕ → PhonesRead → PhonesRead
-before p notWhole = notWhole
-before p (whole ps rest) = whole (p ∷ ps) rest
+-- one in front of those that were read after it
+unfoldable pub before : {A : Type 0} → A → Read (List A) → Read (List A)
+before x notWhole = notWhole
+before x (whole xs rest) = whole (x ∷ xs) rest
+
+-- some phones
+abbrev pub PhonesRead : Type 0
+PhonesRead = Read (List (List ℕ))
 
 -- "each phone is read from what remains of the record"; refused are "zero length" and "a short" part
 unfoldable pub readFields : ℕ → List ℕ → PhonesRead

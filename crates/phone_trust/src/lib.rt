@@ -1,10 +1,13 @@
 // Who is paired, who is validated (pairing.rs, phone_trust.rs).
+use phones::PhoneList;
+use saved_record::Store;
 use state::Identity;
 use state::Phones;
-use state::Validations;
 ghost use mathlib.Core.Path.{_≡_};
-ghost use Rattle.state.specs.View.{storeIn, listsIn};
-ghost use Rattle.phone_trust.specs.Trust.{carHasValidated, isPaired, isValidated, ofThisCar, trustOf};
+ghost use Rattle.phones.specs.Phones.{phonesOf};
+ghost use Rattle.saved_record.specs.Store.{carsOf};
+ghost use Rattle.state.specs.View.{listsIn};
+ghost use Rattle.phone_trust.specs.Trust.{carHasValidated, isPaired, isValidated, validatedNow, trustOf};
 
 // PhoneTrustLevel.
 pub enum Trust {
@@ -20,26 +23,27 @@ pub fn is_paired(p: Phones, id: &[u8]) -> bool
     phones::contains(paired, id)
 }
 
-// The validations are of the car identified now.
-fn of_this_car(identity: Identity, v: Validations) -> bool
-    ensures { λ r. ⌜ r ≡ ofThisCar identity (storeIn v) ⌝ }
+// The phones validated for the car identified now; none while no car is identified.
+fn validated_now(identity: Identity, s: Store) -> PhoneList
+    ensures { λ r. ⌜ phonesOf r ≡ validatedNow identity (carsOf s) ⌝ }
 {
-    let car = v.car;
-    policy::is_identified(identity, car)
+    if policy::is_car_fingerprint_confirmed(identity) {
+        let car = identity.car.digest;
+        return validations::phones_for(s, car);
+    }
+    phones::empty_list()
 }
 
 pub fn is_phone_validated(identity: Identity, p: Phones, id: &[u8]) -> bool
     ensures { λ r. ⌜ r ≡ isValidated identity (listsIn p) (now (id .entry)) ⌝ }
 {
-    let store = p.store;
-    if of_this_car(identity, store) {
-        if id.len() == 0 {
-            return false;
-        }
-        if is_paired(p, id) {
-            let validated = store.phones;
-            return phones::contains(validated, id);
-        }
+    if id.len() == 0 {
+        return false;
+    }
+    if is_paired(p, id) {
+        let store = p.store;
+        let validated = validated_now(identity, store);
+        return phones::contains(validated, id);
     }
     false
 }
@@ -48,12 +52,9 @@ pub fn car_has_validated_phone(identity: Identity, p: Phones) -> bool
     ensures { λ r. ⌜ r ≡ carHasValidated identity (listsIn p) ⌝ }
 {
     let store = p.store;
-    if of_this_car(identity, store) {
-        let paired = p.paired;
-        let validated = store.phones;
-        return phones::any_in(validated, paired);
-    }
-    false
+    let paired = p.paired;
+    let validated = validated_now(identity, store);
+    phones::any_in(validated, paired)
 }
 
 pub fn phone_trust_level(identity: Identity, p: Phones, id: &[u8]) -> Trust

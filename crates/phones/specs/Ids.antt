@@ -13,6 +13,11 @@ unfoldable pub someOf : {A : Type 0} → (A → Bool) → List A → Bool
 someOf f [] = false
 someOf f (x ∷ xs) = cond (f x) true (someOf f xs)
 
+-- whether a test passes on all of them
+unfoldable pub allOf : {A : Type 0} → (A → Bool) → List A → Bool
+allOf f [] = true
+allOf f (x ∷ xs) = cond (f x) (allOf f xs) false
+
 -- those on which a test passes, in their order
 unfoldable pub kept : {A : Type 0} → (A → Bool) → List A → List A
 kept f [] = []

@@ -263,7 +263,7 @@ pub fn encode_phone_validations(g: Gate) -> RecordAnswer
             stored,
         };
     }
-    let none = state::replies::no_record();
+    let none = saved_record::no_record();
     RecordAnswer {
         answer: Answer::BadSettings,
         stored: none,

@@ -1,14 +1,21 @@
--- What `within` says; and the steps of a loop that tests every element: what is left to test is what stands from i on.
-use mathlib.Core.Path.{_≡_, refl, sym, _∙_}
+-- What `within` says; the steps of a loop that tests every element: what is left to test is what stands from i on; and the cars
+-- in use, by their places.
+use mathlib.Core.Path.{_≡_, refl, sym, ap, _∙_}
 use mathlib.Core.Bool.{Bool, true, false, cond, true≢false}
-use mathlib.Core.List.{List}
-use Prim.Native.Nat.{ℕ, _+_, _≤_, _<_}
+use mathlib.Core.List.{List, [], _∷_}
+use Prim.Native.Nat.{ℕ, zero, suc, _+_, _≤_, _<_}
 use native.Mathlib.Numerals.{add-one}
+use native.Mathlib.Omega.{arith}
 use lib.Dec.{ltb}
 use borrow.Author.Tests.{ltb-false}
-use lib.ListN.{length, drop, getD, drop-of-length-le}
-use lib.Seq.{drop-cons}
-use Rattle.range.specs.Range.{within, allOf}
+use lib.ListN.{length, take, drop, getD, drop-of-length-le}
+use lib.Seq.{drop-cons, take-nil}
+use Rattle.phones.specs.Ids.{allOf}
+use Rattle.saved_record.specs.declared.CarPhones.{CarPhones}
+use Rattle.saved_record.specs.declared.Store.{Store}
+use Rattle.saved_record.proofs.Laws.{place, four, below}
+use Rattle.state.specs.View.{carInRange}
+use Rattle.range.specs.Range.{within}
 
 pub within-is : (low high x : ℕ) → within low high x ≡ true → (low ≤ x) × (x ≤ high)
 unfolding within
@@ -33,3 +40,21 @@ module _ {A : Type 0} (f : A → Bool) (xs : List A) (d : A) (i : ℕ) (h : i < 
 pub all-end : {A : Type 0} (f : A → Bool) (xs : List A) (i : ℕ) → length xs ≤ i → allOf f xs ≡ allOf f (drop i xs) → true ≡ allOf f xs
 unfolding allOf
 all-end f xs i h inv = sym (inv ∙ rw (drop-of-length-le xs h))
+
+-- every car in use, by the four places
+abbrev atPlaces : ℕ → CarPhones → CarPhones → CarPhones → CarPhones → Bool
+atPlaces n a b c d =
+    cond (cond (ltb 0 n) (carInRange a) true) (cond (cond (ltb 1 n) (carInRange b) true)
+    (cond (cond (ltb 2 n) (carInRange c) true) (cond (cond (ltb 3 n) (carInRange d) true) true false) false) false) false
+
+at-places : (n : ℕ) (a b c d : CarPhones) → allOf carInRange (take n (a ∷ b ∷ c ∷ d ∷ [])) ≡ atPlaces n a b c d
+unfolding allOf
+at-places zero a b c d = refl
+at-places (suc zero) a b c d = refl
+at-places (suc (suc zero)) a b c d = refl
+at-places (suc (suc (suc zero))) a b c d = refl
+at-places (suc (suc (suc (suc n)))) a b c d = rw (below 0 n (omega arith), below 1 n (omega arith), below 2 n (omega arith), below 3 n (omega arith), take-nil n)
+
+pub cars-by : (s : Store) → length (s .cars) ≡ 4
+    → allOf carInRange (take (s .count) (s .cars)) ≡ atPlaces (s .count) (place (s .cars) 0) (place (s .cars) 1) (place (s .cars) 2) (place (s .cars) 3)
+cars-by s far = ap (λ (l : List CarPhones). allOf carInRange (take (s .count) l)) (four (s .cars) far) ∙ at-places (s .count) _ _ _ _

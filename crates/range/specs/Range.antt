@@ -1,9 +1,10 @@
 -- The range of a lent gate: what is outside gets 25 first from every call (01, "New gate").
 use mathlib.Core.Bool.{Bool, true, false, cond, _&&_}
-use mathlib.Core.List.{List, [], _∷_}
+use mathlib.Core.List.{List}
 use Prim.Native.Nat.{ℕ}
 use lib.Dec.{ltb}
 use lib.ListN.{take}
+use Rattle.phones.specs.Ids.{allOf}
 use Rattle.phones.specs.Phones.{idBytes, idInRange}
 use Rattle.state.specs.declared.Method.{Method}
 use Rattle.state.specs.declared.Settings.{Settings}
@@ -27,11 +28,6 @@ settingsFit s =
     && within 0 86_400_000 (s .cooldown)
     && within 0 86_400_000 (s .keep)
     && within 0 32 (s .bonded)
-
--- whether a test passes on all of them
-unfoldable pub allOf : {A : Type 0} → (A → Bool) → List A → Bool
-allOf f [] = true
-allOf f (x ∷ xs) = cond (f x) (allOf f xs) false
 
 -- 01, New gate: bytes from 33 to 126
 unfoldable pub printable : List ℕ → Bool
@@ -74,6 +70,6 @@ coreFits c =
     && triesFit (c .settings) (c .validation)
     && windowFits (c .probe .window)
 
--- 01, New gate: a gate out of range gets 25 first. Lists: the counts and lengths of both
+-- 01, New gate: a gate out of range gets 25 first. Lists: the counts and lengths of all, and W-207: no digest under two cars
 unfoldable pub inRange : View → Bool
 inRange v = coreFits (v .core) && v .pairedFits && v .storeFits

@@ -1,4 +1,6 @@
 // The range of a lent gate: out of it every call answers 25.
+use saved_record::CarPhones;
+use saved_record::Store;
 use state::Core;
 use state::Gate;
 use state::Method;
@@ -7,7 +9,9 @@ use state::Session;
 use state::Settings;
 use state::Window;
 ghost use mathlib.Core.Path.{_≡_};
-ghost use Rattle.state.specs.View.{view};
+ghost use mathlib.Core.Bool.{true, not, cond};
+ghost use Rattle.saved_record.specs.Steps.{twiceAt};
+ghost use Rattle.state.specs.View.{carInRange, storeInRange, view};
 ghost use Rattle.range.specs.Range as Range;
 ghost use Rattle.range.specs.Range.{settingsFit, methodFits, methodsIn, methodsFit, sessionFits, windowFits, coreFits, inRange};
 
@@ -142,6 +146,81 @@ fn core_fits(c: Core) -> bool
     false
 }
 
+// A place that is not in use, or a car with 1 to 32 phones.
+fn place_fits(used: bool, c: CarPhones) -> bool
+    ensures { λ r. ⌜ r ≡ cond used (carInRange c) true ⌝ }
+{
+    if used {
+        let list = c.phones;
+        if phones::count(list) == 0 {
+            return false;
+        }
+        return phones::list_in_range(list);
+    }
+    true
+}
+
+// No digest stands at two of the places in use. One function for this test and that of `saved_record::car_twice` would be called, and not
+// put in its place, and every call would copy the store for it.
+fn digests_differ(
+    n: usize,
+    first: [u8; 32],
+    second: [u8; 32],
+    third: [u8; 32],
+    fourth: [u8; 32],
+) -> bool
+    ensures { λ r. ⌜ r ≡ not (twiceAt n first second third fourth) ⌝ }
+{
+    if saved_record::is_car(1 < n, second, first) {
+        return false;
+    }
+    if saved_record::is_car(2 < n, third, first) {
+        return false;
+    }
+    if saved_record::is_car(3 < n, fourth, first) {
+        return false;
+    }
+    if saved_record::is_car(2 < n, third, second) {
+        return false;
+    }
+    if saved_record::is_car(3 < n, fourth, second) {
+        return false;
+    }
+    if saved_record::is_car(3 < n, fourth, third) {
+        return false;
+    }
+    true
+}
+
+// At most four cars, each in range, and no digest under two of them. The places are written out, as in `saved_record::car_twice`.
+fn store_in_range(s: Store) -> bool
+    ensures { λ r. ⌜ r ≡ storeInRange s ⌝ }
+{
+    let n = s.count;
+    if 4 < n {
+        return false;
+    }
+    let cars = s.cars;
+    let one = cars[0];
+    let two = cars[1];
+    let three = cars[2];
+    let four = cars[3];
+    if place_fits(0 < n, one) {
+        if place_fits(1 < n, two) {
+            if place_fits(2 < n, three) {
+                if place_fits(3 < n, four) {
+                    let first = one.car;
+                    let second = two.car;
+                    let third = three.car;
+                    let fourth = four.car;
+                    return digests_differ(n, first, second, third, fourth);
+                }
+            }
+        }
+    }
+    false
+}
+
 // Whether a lent gate is served; otherwise every call answers 25.
 pub fn in_range(g: Gate) -> bool
     ensures { λ r. ⌜ r ≡ inRange (view g) ⌝ }
@@ -150,8 +229,8 @@ pub fn in_range(g: Gate) -> bool
     if core_fits(core) {
         let paired = g.phones.paired;
         if phones::list_in_range(paired) {
-            let validated = g.phones.store.phones;
-            return phones::list_in_range(validated);
+            let store = g.phones.store;
+            return store_in_range(store);
         }
     }
     false

@@ -43,7 +43,8 @@ use Rattle.replay_lines.specs.Room.{Within}
 use Rattle.replay_lines.specs.declared.answer.Held.{Held}
 use Rattle.replay_lines.specs.declared.answer.Held.the-variants.{Fine, Blank, Item, Reply, Wrong}
 use Rattle.replay_lines.proofs.AnswerRoom.{Owned, method-ids, HeldIn, shown-in, answer-in}
-use Rattle.replay_lines.proofs.Room.{_⊕_, upto, either, same, text-in, part-in, comma-in, item-in, flag-in, word-in, digits-in, id-in, phones-in, method-in}
+use Rattle.replay_lines.proofs.StoreRoom.{saved-in}
+use Rattle.replay_lines.proofs.Room.{_⊕_, upto, either, same, text-in, comma-in, item-in, flag-in, word-in, digits-in, id-in, phones-in, method-in}
 use Rattle.replay_answers.specs.Query.{isDone, approvalName, trustName, told, approval, access, phonesListed, trust, peer, seenIn, shown, phoneAccess, methodAt, methodsTo, methods, challenge, encoded, longRoom}
 
 told-in : (a : Answer) (vs : List Val) → Owned Answer.the-field a vs → (n : ℕ) (f : Page → Page) → Within n f → Within (205 + n) (told a f)
@@ -145,5 +146,5 @@ challenge-in a vs h =
 pub encoded-in : (a : RecordAnswer) (vs : List Val) → Owned RecordAnswer.the-field a vs → Within longRoom (encoded a)
 unfolding encoded
 encoded-in a vs h =
-    upto longRoom (lit≤ tt) (told-in (a .answer) _ (h .1 .1 .0) 2188 _
-    (text-in (ascii " record=") ⊕ part-in (a .stored .bytes) (a .stored .len) 1090 (le-of-eq (search needs))))
+    upto longRoom (lit≤ tt) (told-in (a .answer) _ (h .1 .1 .0) 8724 _
+    (text-in (ascii " record=") ⊕ saved-in (a .stored) _ (h .1 .1 .1 .0)))

@@ -5,7 +5,7 @@ use Prim.Native.Nat.{ℕ, zero, suc, _-_, _≤_, _<_}
 use native.Mathlib.Nat.{le-of-suc-le-suc, not-suc-le-zero}
 use native.Mathlib.Omega.{arith}
 use lib.ListN.{length, getD, List·getD-eq-default}
-use Rattle.definition.specs.Gate.{ask, approveCanReadWrite}
+use Rattle.definition.specs.Gate.{ask, onCore, approveCanReadWrite}
 use Rattle.answers.specs.Query.{isCanReadOnly, canReadWriteApproval}
 use Rattle.replay_items.specs.Bytes.{Bytes}
 use Rattle.replay_items.specs.declared.Items.{Items}
@@ -77,7 +77,7 @@ module _ (i : Items) (b : Bytes) (n : ℕ) where
   module _ (h : phones ≤ n) where
     pub line-can : n - phones < cans → lineOf n i b ≡ call (canCall (n - phones) i b)
     unfolding lineOf lines phoneCalls canCall canCalls
-    line-can t = behind call (phoneCalls i b) fromCan n h ∙ here call (canCalls i b) fromPlain (n - phones) approveCanReadWrite t
+    line-can t = behind call (phoneCalls i b) fromCan n h ∙ here call (canCalls i b) fromPlain (n - phones) (onCore approveCanReadWrite) t
 
     module _ (k : cans ≤ n - phones) where
       pub line-plain : n - phones - cans < plains → lineOf n i b ≡ call (ask (plainQuery (n - phones - cans) i b))

@@ -36,7 +36,7 @@ phoneCalls i b =
 -- owner, which is no bytes
 unfoldable pub canCalls : Items → Bytes → List Call
 canCalls i b =
-    approveCanReadWrite
+    onCore approveCanReadWrite
     ∷ onCore revokeCanReadWriteApproval
     ∷ onCore (restoreCanReadWriteApproval (i .car .car))
     ∷ onCore (setCanDevWriteUnlocked (i .switches .unlocked .on))
@@ -100,7 +100,7 @@ unfoldable pub phoneCall : ℕ → Items → Bytes → Call
 phoneCall n i b = getD (phoneCalls i b) n (newCall i)
 
 unfoldable pub canCall : ℕ → Items → Bytes → Call
-canCall n i b = getD (canCalls i b) n approveCanReadWrite
+canCall n i b = getD (canCalls i b) n (onCore approveCanReadWrite)
 
 unfoldable pub plainQuery : ℕ → Items → Bytes → Query
 plainQuery n i b = getD (plainQueries i b) n isCanReadOnly

@@ -14,7 +14,7 @@ use denote.Struct.Field.{Field}
 use borrow.Author.Needs.{needs}
 use Rattle.ascii.specs.Ascii.{ascii}
 use Rattle.state.specs.declared.Answer.{Answer}
-use Rattle.state.specs.declared.Answer.the-variants.{Done, Yes, No, Nothing, Count, Number, Reason, Session, UnknownMethod, CarNotIdentified, CoolingDown, OtherPhoneSession, MethodUnavailable, MethodNotAvailableNow, NoRandomSource, NoSession, NotCodeEntry, WrongCode, NoDevLock, NotNeeded, Logging, BusAsleep, Busy, NoAttemptsLeft, Invalid, IdTooLong, RandomSpent, NotText, ListFull, Malformed, TooLarge, BadFrame, BadSettings}
+use Rattle.state.specs.declared.Answer.the-variants.{Done, Yes, No, Nothing, Count, Number, Reason, Session, UnknownMethod, CarNotIdentified, CoolingDown, OtherPhoneSession, MethodUnavailable, MethodNotAvailableNow, NoRandomSource, NoSession, NotCodeEntry, WrongCode, NoDevLock, NotNeeded, Logging, BusAsleep, Busy, NoAttemptsLeft, Invalid, IdTooLong, RandomSpent, NotText, ListFull, Malformed, TooLarge, BadFrame, BadSettings, CarTwice}
 use Rattle.state.specs.Running.{pastMethods}
 use Rattle.state.specs.declared.Method.{Method}
 use Rattle.state.specs.declared.SessionReply.{SessionReply}
@@ -99,6 +99,7 @@ shown-in Malformed vs h = (lit≤ tt, tt)
 shown-in TooLarge vs h = (lit≤ tt, tt)
 shown-in BadFrame vs h = (lit≤ tt, tt)
 shown-in BadSettings vs h = (lit≤ tt, tt)
+shown-in CarTwice vs h = (lit≤ tt, tt)
 
 behind-in : (h : Held) → HeldIn h → Within 173 (behind h)
 behind-in Fine u = same 173

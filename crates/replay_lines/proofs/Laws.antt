@@ -1,5 +1,5 @@
 -- Laws of what is laid down.
-use mathlib.Core.Path.{_≡_, sym, _∙_}
+use mathlib.Core.Path.{_≡_, refl, sym, _∙_}
 use mathlib.Core.List.{List, [], _∷_}
 use Prim.Native.Nat.{ℕ, _+_, _%_, _^_, _≤_, _<_}
 use native.Mathlib.Numerals.{add-one}
@@ -8,7 +8,12 @@ use lib.ListN.{length, take, drop, getD, replicate, drop-of-length-le}
 use lib.Seq.{drop-cons}
 use Rattle.arrays.specs.Arrays.{put}
 use Rattle.arrays.proofs.Laws.{put-take}
+use Rattle.saved_record.specs.declared.CarPhones.{CarPhones}
+use Rattle.saved_record.specs.SavedRecord.{CarIds}
+use Rattle.saved_record.specs.Store.{carOf}
+use Rattle.saved_record.proofs.Laws.{pastCars, used, used-length, used-at}
 use Rattle.replay_lines.specs.Page.{Page}
+use Rattle.replay_lines.specs.Cars.{noCar, car, eachCar, cars}
 use Rattle.replay_lines.specs.Parts.{idAt, idsFrom}
 use Rattle.replay_lines.specs.Fields.{putField, putFields}
 use Rattle.replay_lines.specs.declared.fields.Field.{Field}
@@ -47,3 +52,28 @@ module _ (lent : List ℕ) (fs : List Field) (i : ℕ) (p₀ p : Page) (inv : pu
   pub fields-end : length fs ≤ i → p ≡ putFields lent fs p₀
   unfolding putFields
   fields-end h = sym (inv ∙ rw (drop-of-length-le fs h))
+
+-- ---- the cars of a store, place by place
+
+pub no-cars : (cs : List CarIds) (p : Page) → length cs ≡ 0 → noCar p ≡ cars cs p
+unfolding cars
+no-cars [] p h = refl
+no-cars (c ∷ cs) p h = absurd (omega arith)
+
+pub some-cars : (cs : List CarIds) (p : Page) → (length cs ≡ 0 → ⊥) → eachCar cs p ≡ cars cs p
+unfolding cars
+some-cars [] p h = absurd (h refl)
+some-cars (c ∷ cs) p h = refl
+
+module _ (n : ℕ) (list : List CarPhones) (fits : n ≤ length list) (i : ℕ) (p₀ p : Page) (inv : eachCar (used n list) p₀ ≡ eachCar (drop i (used n list)) p) where
+  pub cars-again : (q : Page) → i < n → q ≡ car (carOf (getD list i pastCars)) p → eachCar (used n list) p₀ ≡ eachCar (drop (i + 1) (used n list)) q
+  unfolding eachCar
+  cars-again q h e =
+      let l = used-length n list fits in
+      inv ∙ rw (e, add-one, drop-cons (used n list) i (carOf pastCars) (omega arith), used-at n list i h)
+
+  pub cars-end : n ≤ i → p ≡ eachCar (used n list) p₀
+  unfolding eachCar
+  cars-end h =
+      let l = used-length n list fits in
+      sym (inv ∙ rw (drop-of-length-le (used n list) {i = i} (omega arith)))

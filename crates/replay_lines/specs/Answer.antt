@@ -1,10 +1,10 @@
--- How an answer is shown: document 01's number and name of a refusal, and the values behind an answer.
+-- How an answer is shown: the number and name of a refusal (documents 01 and 02), and the values behind an answer.
 use mathlib.Core.List.{List, []}
 use Prim.Native.Nat.{ℕ}
 use lib.ListN.{getD}
 use Rattle.ascii.specs.Ascii.{ascii}
 use Rattle.state.specs.declared.Answer.{Answer}
-use Rattle.state.specs.declared.Answer.the-variants.{Done, Yes, No, Nothing, Count, Number, Reason, Session, UnknownMethod, CarNotIdentified, CoolingDown, OtherPhoneSession, MethodUnavailable, MethodNotAvailableNow, NoRandomSource, NoSession, NotCodeEntry, WrongCode, NoDevLock, NotNeeded, Logging, BusAsleep, Busy, NoAttemptsLeft, Invalid, IdTooLong, RandomSpent, NotText, ListFull, Malformed, TooLarge, BadFrame, BadSettings}
+use Rattle.state.specs.declared.Answer.the-variants.{Done, Yes, No, Nothing, Count, Number, Reason, Session, UnknownMethod, CarNotIdentified, CoolingDown, OtherPhoneSession, MethodUnavailable, MethodNotAvailableNow, NoRandomSource, NoSession, NotCodeEntry, WrongCode, NoDevLock, NotNeeded, Logging, BusAsleep, Busy, NoAttemptsLeft, Invalid, IdTooLong, RandomSpent, NotText, ListFull, Malformed, TooLarge, BadFrame, BadSettings, CarTwice}
 use Rattle.state.specs.declared.Kind.{Kind}
 use Rattle.state.specs.declared.Kind.the-variants.{CodeEntry, InCarAction}
 use Rattle.state.specs.declared.SessionReply.{SessionReply}
@@ -50,6 +50,7 @@ shownAs Malformed = (ascii "22/Malformed", Blank)
 shownAs TooLarge = (ascii "23/TooLarge", Blank)
 shownAs BadFrame = (ascii "24/BadFrame", Blank)
 shownAs BadSettings = (ascii "25/BadSettings", Blank)
+shownAs CarTwice = (ascii "28/CarTwice", Blank)
 
 abbrev pub nameOf : Answer → List ℕ
 nameOf a = shownAs a .0

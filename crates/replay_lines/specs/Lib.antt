@@ -1,4 +1,5 @@
 pub mod Answer
+pub mod Cars
 pub mod Fields
 pub mod Page
 pub mod Parts

@@ -95,6 +95,7 @@ wordNames =
     ∷ "23/TooLarge"
     ∷ "24/BadFrame"
     ∷ "25/BadSettings"
+    ∷ "28/CarTwice"
     ∷ "code"
     ∷ "action"
     ∷ "in_progress"

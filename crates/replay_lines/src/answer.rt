@@ -1,4 +1,4 @@
-// Answers, with document 01's numbers and names.
+// Answers, with the numbers and names of documents 01 and 02.
 use crate::fields::Field;
 use crate::key;
 use crate::word;
@@ -62,6 +62,7 @@ pub fn shown_by(a: Answer) -> Shown
         Answer::TooLarge => Shown(26, Held::Blank),
         Answer::BadFrame => Shown(27, Held::Blank),
         Answer::BadSettings => Shown(28, Held::Blank),
+        Answer::CarTwice => Shown(29, Held::Blank),
     }
 }
 

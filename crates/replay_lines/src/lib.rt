@@ -1,6 +1,7 @@
 // Laying down the lines that a replay prints. Each `put_` function writes over `out` from `at` on and answers the place
 // after what it wrote; where something does not fit, a place past the end.
 pub mod answer;
+pub mod cars;
 pub mod fields;
 pub mod key;
 pub mod parts;

@@ -1,6 +1,7 @@
-// The words that are values of fields, a row to a line. The refusal of document 01's number n stands at place n + 3.
+// The words that are values of fields, a row to a line. Document 01's refusal of number n stands at place n + 3, and behind them those of
+// document 02 by their numbers.
 
-pub const WORDS: [u8; 515] = *b"ok
+pub const WORDS: [u8; 527] = *b"ok
 yes
 no
 none
@@ -29,6 +30,7 @@ none
 23/TooLarge
 24/BadFrame
 25/BadSettings
+28/CarTwice
 code
 action
 in_progress
@@ -48,32 +50,32 @@ never
 
 pub const NONE: usize = 3;
 
-pub const CODE: usize = 29;
+pub const CODE: usize = 30;
 
-pub const ACTION: usize = 30;
+pub const ACTION: usize = 31;
 
-pub const IN_PROGRESS: usize = 31;
+pub const IN_PROGRESS: usize = 32;
 
-pub const SUCCEEDED: usize = 32;
+pub const SUCCEEDED: usize = 33;
 
-pub const FAILED: usize = 33;
+pub const FAILED: usize = 34;
 
-pub const CANCELLED: usize = 34;
+pub const CANCELLED: usize = 35;
 
-pub const TIMED_OUT: usize = 35;
+pub const TIMED_OUT: usize = 36;
 
-pub const NOT_APPROVED: usize = 36;
+pub const NOT_APPROVED: usize = 37;
 
-pub const AWAITING_CAR: usize = 37;
+pub const AWAITING_CAR: usize = 38;
 
-pub const APPROVED: usize = 38;
+pub const APPROVED: usize = 39;
 
-pub const OTHER_CAR: usize = 39;
+pub const OTHER_CAR: usize = 40;
 
-pub const NOT_BONDED: usize = 40;
+pub const NOT_BONDED: usize = 41;
 
-pub const BONDED: usize = 41;
+pub const BONDED: usize = 42;
 
-pub const VALIDATED: usize = 42;
+pub const VALIDATED: usize = 43;
 
-pub const NEVER: usize = 43;
+pub const NEVER: usize = 44;

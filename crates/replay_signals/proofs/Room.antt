@@ -22,7 +22,8 @@ use Rattle.state.proofs.Signals as Signals
 use Rattle.state.proofs.ValidationsSignal as ValidationsSignal
 use Rattle.replay_lines.specs.Room.{Within}
 use Rattle.replay_lines.proofs.AnswerRoom.{Owned}
-use Rattle.replay_lines.proofs.Room.{_⊕_, upto, either, same, text-in, number-in, bytes-in, part-in, yes-no-in, item-in, digits-in}
+use Rattle.replay_lines.proofs.Room.{_⊕_, upto, either, same, text-in, number-in, bytes-in, yes-no-in, item-in, digits-in}
+use Rattle.replay_lines.proofs.StoreRoom.{saved-in}
 use Rattle.replay_signals.specs.Signals.{next, raised, readOnly, approval, validations, running, challenge, ended, listed, signals}
 
 next-in : (from : ℕ) (name : List ℕ) → Within (1 + length name) (next from name)
@@ -47,12 +48,12 @@ approval-in from s vs h =
     (either (s .car .known) (next-in from (ascii "P:") ⊕ bytes-in (s .car .digest) 32 far) (upto 67 (lit≤ tt) (next-in from (ascii "P:") ⊕ text-in (ascii "erase"))))
     (same 67)
 
-validations-in : (from : ℕ) (s : ValidationsSignal) (vs : List Val) → Owned ValidationsSignal.the-field s vs → Within 2183 (validations from s)
+validations-in : (from : ℕ) (s : ValidationsSignal) (vs : List Val) → Owned ValidationsSignal.the-field s vs → Within 8719 (validations from s)
 unfolding validations
 validations-in from s vs h =
     either (s .sent)
-    (either (eqb (s .stored .len) 0) (upto 2183 (lit≤ tt) (next-in from (ascii "S:") ⊕ text-in (ascii "erase"))) (next-in from (ascii "S:") ⊕ part-in (s .stored .bytes) (s .stored .len) 1090 (le-of-eq (search needs))))
-    (same 2183)
+    (either (eqb (s .stored .len) 0) (upto 8719 (lit≤ tt) (next-in from (ascii "S:") ⊕ text-in (ascii "erase"))) (next-in from (ascii "S:") ⊕ saved-in (s .stored) _ (h .1 .1 .0)))
+    (same 8719)
 
 running-in : (c : Challenge) (vs : List Val) → Owned Challenge.the-field c vs → Within 60 (running c)
 unfolding running
@@ -70,13 +71,13 @@ ended-in : (from : ℕ) → Within 4 (ended from)
 unfolding ended
 ended-in from = record { fits = λ p r. either (eqb (p .place) from) (text-in (ascii "none")) (same 4) .fits p r }
 
-listed-in : (from : ℕ) (s : Signals) (vs : List Val) → Owned Signals.the-field s vs → Within 2327 (listed from s)
+listed-in : (from : ℕ) (s : Signals) (vs : List Val) → Owned Signals.the-field s vs → Within 8863 (listed from s)
 unfolding listed
 listed-in from s vs h =
     raised-in from (s .access) (ascii "A") ⊕ raised-in from (s .availability) (ascii "V") ⊕ read-only-in from (s .readonly)
     ⊕ approval-in from (s .approval) _ (h .1 .1 .1 .1 .1 .1 .0) ⊕ validations-in from (s .validations) _ (h .1 .1 .0)
     ⊕ challenge-in from (s .challenge) _ (h .1 .1 .1 .1 .1 .1 .1 .0) ⊕ ended-in from
 
-pub signals-in : (s : Signals) (vs : List Val) → Owned Signals.the-field s vs → Within 2336 (signals s)
+pub signals-in : (s : Signals) (vs : List Val) → Owned Signals.the-field s vs → Within 8872 (signals s)
 unfolding signals
 signals-in s vs h = record { fits = λ p r. (text-in (ascii " signals=") ⊕ listed-in _ s vs h) .fits p r }

@@ -9,10 +9,7 @@ use lib.ListN.{length, getD}
 use mir.Val.{Val}
 use borrow.Author.Needs.{needs, length-unmapped}
 use Rattle.ascii.specs.Ascii.{ascii}
-use Rattle.phones.specs.Phones.{phonesOf}
-use Rattle.phones.specs.declared.PhoneList.{PhoneList}
 use Rattle.phones.specs.declared.ShortId.{ShortId}
-use Rattle.phones.proofs.PhoneList as PhoneList
 use Rattle.phones.proofs.ShortId as ShortId
 use Rattle.state.specs.Running.{pastMethods}
 use Rattle.state.specs.declared.Access.{Access}
@@ -24,7 +21,6 @@ use Rattle.state.specs.declared.Methods.{Methods}
 use Rattle.state.specs.declared.Phones.{Phones}
 use Rattle.state.specs.declared.Policy.{Policy}
 use Rattle.state.specs.declared.Settings.{Settings}
-use Rattle.state.specs.declared.Validations.{Validations}
 use Rattle.state.proofs.Access as Access
 use Rattle.state.proofs.Core as Core
 use Rattle.state.proofs.Gate as Gate
@@ -33,13 +29,12 @@ use Rattle.state.proofs.Phones as Phones
 use Rattle.state.proofs.Policy as Policy
 use Rattle.state.proofs.Settings as Settings
 use Rattle.state.proofs.Validation as Validation
-use Rattle.state.proofs.Validations as Validations
-use Rattle.replay_lines.specs.Parts.{idsFrom}
 use Rattle.replay_lines.specs.Room.{Within}
 use Rattle.replay_lines.proofs.AnswerRoom.{Owned, method-ids}
-use Rattle.replay_lines.proofs.Room.{_⊕_, upto, either, same, text-in, known-in, comma-in, item-in, flag-in, word-in, id-in, phones-in, method-in}
+use Rattle.replay_lines.proofs.Room.{_⊕_, upto, either, same, text-in, known-in, comma-in, item-in, flag-in, word-in, id-in, method-in}
+use Rattle.replay_lines.proofs.StoreRoom.{list-in, cars-in}
 use Rattle.replay_running.proofs.Room.{session-in, probe-in}
-use Rattle.replay_state.specs.Whole.{settings, methodAt, methodsTo, identity, access, buses, policy, validated, peer, pairings, front, gate}
+use Rattle.replay_state.specs.Whole.{settings, methodAt, methodsTo, identity, access, buses, policy, peer, pairings, front, gate}
 
 settings-in : (s : Settings) (vs : List Val) → Owned Settings.the-field s vs → Within 186 (settings s)
 unfolding settings
@@ -80,32 +75,23 @@ policy-in : (s : Policy) (vs : List Val) → Owned Policy.the-field s vs → Wit
 unfolding policy
 policy-in s vs h = identity-in (s .identity) _ (h .1 .1 .0) ⊕ access-in (s .access) _ (h .1 .1 .1 .0) ⊕ buses-in (s .buses)
 
-list-in : (l : PhoneList) (vs : List Val) → Owned PhoneList.the-field l vs → Within 2080 (idsFrom 0 (phonesOf l))
-list-in l vs h = phones-in l (le-of-eq (search needs)) (le-of-eq (search needs))
-
-validated-in : (v : Validations) (vs : List Val) → Owned Validations.the-field v vs → Within 2170 (validated v)
-unfolding validated
-validated-in v vs h =
-    text-in (ascii " validated_car=") ⊕ known-in (ltb 0 (length (phonesOf (v .phones)))) (v .car) (le-of-eq (search needs))
-    ⊕ text-in (ascii " validated=") ⊕ list-in (v .phones) _ (h .1 .1 .1 .0)
-
 peer-in : (id : ShortId) (vs : List Val) → Owned ShortId.the-field id vs → Within 70 (peer id)
 unfolding peer
 peer-in id vs h =
     either (eqb (id .len) 0) (upto 70 (lit≤ tt) (word-in (ascii " peer=") (ascii "none") 4 (lit≤ tt)))
     (text-in (ascii " peer=") ⊕ id-in id (le-of-eq (search needs)))
 
-pairings-in : (l : Phones) (vs : List Val) → Owned Phones.the-field l vs → Within 4250 (pairings l)
+pairings-in : (l : Phones) (vs : List Val) → Owned Phones.the-field l vs → Within 10760 (pairings l)
 unfolding pairings
-pairings-in l vs h = list-in (l .paired) _ (h .1 .1 .0) ⊕ validated-in (l .store) _ (h .1 .1 .1 .0)
+pairings-in l vs h = list-in (l .paired) _ (h .1 .1 .0) ⊕ cars-in (l .store) _ (h .1 .1 .1 .0)
 
-front-in : (c : Core) (l : Phones) (vs us : List Val) → Owned Core.the-field c vs → Owned Phones.the-field l us → Within 5474 (front c l)
+front-in : (c : Core) (l : Phones) (vs us : List Val) → Owned Core.the-field c vs → Owned Phones.the-field l us → Within 11984 (front c l)
 unfolding front
 front-in c l vs us h k =
     settings-in (c .settings) _ (h .1 .1 .0) ⊕ methods-in (c .methods) (method-ids (c .methods .list) _ (h .1 .1 .1 .0 .1 .1 .0 .1 .1)) 8
     ⊕ policy-in (c .policy) _ (h .1 .1 .1 .1 .0) ⊕ pairings-in l us k ⊕ peer-in (c .peer) _ (h .1 .1 .1 .1 .1 .0)
 
-pub gate-in : (g : Gate) (vs : List Val) → Owned Gate.the-field g vs → Within 6264 (gate g)
+pub gate-in : (g : Gate) (vs : List Val) → Owned Gate.the-field g vs → Within 12774 (gate g)
 unfolding gate
 gate-in g vs h =
     let core = h .1 .1 .0 in

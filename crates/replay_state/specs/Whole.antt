@@ -2,10 +2,11 @@
 use mathlib.Core.Bool.{false, cond}
 use Prim.Native.Nat.{ℕ, zero, suc}
 use lib.Dec.{eqb, ltb}
-use lib.ListN.{length, getD}
+use lib.ListN.{getD}
 use Rattle.ascii.specs.Ascii.{ascii}
 use Rattle.phones.specs.Phones.{idBytes, phonesOf}
 use Rattle.phones.specs.declared.ShortId.{ShortId}
+use Rattle.saved_record.specs.Store.{carsOf}
 use Rattle.state.specs.Running.{pastMethods}
 use Rattle.state.specs.declared.Access.{Access}
 use Rattle.state.specs.declared.Buses.{Buses}
@@ -16,7 +17,7 @@ use Rattle.state.specs.declared.Methods.{Methods}
 use Rattle.state.specs.declared.Phones.{Phones}
 use Rattle.state.specs.declared.Policy.{Policy}
 use Rattle.state.specs.declared.Settings.{Settings}
-use Rattle.state.specs.declared.Validations.{Validations}
+use Rattle.replay_lines.specs.Cars.{cars}
 use Rattle.replay_lines.specs.Page.{Page, _▸_, text, bytes, known, comma, item, flag, word}
 use Rattle.replay_lines.specs.Parts.{idsFrom, method}
 use Rattle.replay_running.specs.Probe.{probe}
@@ -59,18 +60,12 @@ buses s p =
 unfoldable pub policy : Policy → Page → Page
 policy s p = p ▸ identity (s .identity) ▸ access (s .access) ▸ buses (s .buses)
 
--- the car and the phones validated in it; none exactly if there are no phones
-unfoldable pub validated : Validations → Page → Page
-validated v p =
-    p ▸ text (ascii " validated_car=") ▸ known (ltb 0 (length (phonesOf (v .phones)))) (v .car)
-    ▸ text (ascii " validated=") ▸ idsFrom 0 (phonesOf (v .phones))
-
 -- the connected phone; none exactly if its id is empty
 unfoldable pub peer : ShortId → Page → Page
 peer id p = cond (eqb (id .len) 0) (p ▸ word (ascii " peer=") (ascii "none")) (p ▸ text (ascii " peer=") ▸ bytes (idBytes id))
 
 unfoldable pub pairings : Phones → Page → Page
-pairings l p = p ▸ idsFrom 0 (phonesOf (l .paired)) ▸ validated (l .store)
+pairings l p = p ▸ idsFrom 0 (phonesOf (l .paired)) ▸ cars (carsOf (l .store))
 
 unfoldable pub front : Core → Phones → Page → Page
 front core l p = p ▸ settings (core .settings) ▸ methodsTo (core .methods) 8 ▸ policy (core .policy) ▸ pairings l ▸ peer (core .peer)

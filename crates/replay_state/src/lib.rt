@@ -12,11 +12,10 @@ use state::Methods;
 use state::Phones;
 use state::Policy;
 use state::Settings;
-use state::Validations;
 ghost use mathlib.Core.Path.{_≡_};
 ghost use Prim.Native.Nat.{_<_};
 ghost use Rattle.replay_lines.specs.Page.{page};
-ghost use Rattle.replay_state.specs.Whole.{settings, methodAt, methodsTo, identity, access, buses, policy, validated, peer, pairings, front, gate};
+ghost use Rattle.replay_state.specs.Whole.{settings, methodAt, methodsTo, identity, access, buses, policy, peer, pairings, front, gate};
 
 fn put_settings(out: &mut [u8], at: usize, s: Settings) -> usize
     ensures { λ r. ⌜ page (now (out .exit)) r ≡ settings s (page (now (out .entry)) at) ⌝ }
@@ -114,26 +113,6 @@ fn put_buses(out: &mut [u8], at: usize, b: Buses) -> usize
     replay_lines::fields::put_fields(out, at, b"", fields)
 }
 
-fn put_validated(out: &mut [u8], at: usize, v: Validations) -> usize
-    ensures { λ r. ⌜ page (now (out .exit)) r ≡ validated v (page (now (out .entry)) at) ⌝ }
-{
-    let list = v.phones;
-    let n = phones::count(list);
-    let digest = v.car;
-    let fields = [
-        Field::Known(key::VALIDATED_CAR, 0 < n),
-        Field::Key(key::VALIDATED),
-        Field::Nothing,
-        Field::Nothing,
-        Field::Nothing,
-        Field::Nothing,
-        Field::Nothing,
-        Field::Nothing,
-    ];
-    let k = replay_lines::fields::put_fields(out, at, &digest, fields);
-    replay_lines::parts::put_phones(out, k, list)
-}
-
 fn put_peer(out: &mut [u8], at: usize, id: ShortId) -> usize
     ensures { λ r. ⌜ page (now (out .exit)) r ≡ peer id (page (now (out .entry)) at) ⌝ }
 {
@@ -149,8 +128,8 @@ fn put_pairings(out: &mut [u8], at: usize, l: Phones) -> usize
 {
     let list = l.paired;
     let k = replay_lines::parts::put_phones(out, at, list);
-    let v = l.store;
-    put_validated(out, k, v)
+    let s = l.store;
+    replay_lines::cars::put_cars(out, k, s)
 }
 
 fn put_policy(out: &mut [u8], at: usize, p: Policy) -> usize

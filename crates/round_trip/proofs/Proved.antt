@@ -1,25 +1,27 @@
 -- The round trip of `saved_record` carried over to the calls.
-use Prim.Native.Nat.{ℕ, zero, suc}
-use mathlib.Core.Path.{_≡_, refl, ap, _∙_}
+use Prim.Native.Nat.{ℕ, _≤_}
+use mathlib.Core.Path.{_≡_, refl, ap, sym, _∙_}
 use mathlib.Core.Bool.{Bool, true, false, cond, false≢true}
 use mathlib.Core.List.{List, [], _∷_}
 use native.Mathlib.Omega.{arith}
-use borrow.Author.Tests.{le-ltb, ne-eqb}
+use borrow.Author.Tests.{eqb-true, ne-eqb}
 use lib.Dec.{eqb}
 use lib.ListN.{length}
 use Rattle.arrays.specs.Arrays.{sameBytes}
-use Rattle.arrays.proofs.Laws.{padded-take}
-use Rattle.phones.specs.Ids.{contains, someOf}
-use Rattle.phones.proofs.Laws.{phones-of-list}
-use Rattle.phones.proofs.Range.{Short, range-count, range-short}
-use Rattle.phone_fields.specs.PhoneFields.{anyLong, overLimits}
+use Rattle.arrays.proofs.Laws.{both, padded-take}
+use Rattle.phones.specs.Ids.{someOf, allOf, contains}
+use Rattle.phones.proofs.Search.{none-cons}
 use Rattle.phone_fields.proofs.Laws.{anyEmpty}
-use Rattle.saved_record.specs.SavedRecord.{Reading, malformed, tooLarge, ok, encoded, recordOf, decoded}
-use Rattle.saved_record.proofs.RoundTrip.{accepted-well-formed, reads-back, written-back, at-most-1090}
+use Rattle.saved_record.specs.SavedRecord.{CarIds, Reading, malformed, carTwice, tooLarge, ok, over, encoded, recordOf, decoded}
+use Rattle.saved_record.specs.Store.{carsOf, storeOf}
+use Rattle.saved_record.proofs.Laws.{cars-of-store}
+use Rattle.saved_record.proofs.Parts.{Digests, lacking, unreadable}
+use Rattle.saved_record.proofs.RoundTrip.{accepted-well-formed, reads-back, written-back, version-one, at-most-4358}
 use Rattle.state.specs.declared.Gate.{Gate}
 use Rattle.state.specs.declared.Answer.the-variants.{Done, BadSettings}
-use Rattle.state.specs.View.{Store, storeIn, view}
+use Rattle.state.specs.View.{view}
 use Rattle.range.specs.Range.{inRange}
+use Rattle.range.proofs.Stores.{someFit, ids-fit, carFits, store-fits}
 use Rattle.validations.specs.Store.{recordFor, restore}
 use Rattle.validations.specs.Store as Store
 use Rattle.answers.specs.Answers.{recordAnswer}
@@ -27,18 +29,19 @@ use Rattle.answers.specs.Query.{plain, answerTo}
 use Rattle.definition.specs.Gate.{ofLists, asked, served, listing, says, laidReply, left, gives, onLists, restorePhoneValidations, step}
 use Rattle.stays_in_range.specs.Stays.{Sized, InRange}
 use Rattle.stays_in_range.proofs.Parts.{fits}
+use Rattle.stays_in_range.proofs.Cars.{over-is, accepted-fits}
 use Rattle.stays_in_range.proofs.Proved.{stays-in-range}
-use Rattle.round_trip.specs.Trip.{Saves, used, restoring, storeWith, doneWith, SavedRestores, RestoredSaves}
+use Rattle.round_trip.specs.Trip.{Saves, used, restoring, doneWith, SavedRestores, RestoredSaves, OlderSaves}
 
 -- ---- the two calls
 
-saves : (g : Gate) → InRange g → Saves g (recordFor (storeIn (g .phones .store)))
+saves : (g : Gate) → InRange g → Saves g (recordFor (carsOf (g .phones .store)))
 unfolding step gives says answerTo recordAnswer view
 saves g r = rw r
 
-restores : (h : Gate) (bytes : List ℕ) (s : Store) → InRange h → decoded bytes ≡ ok (s .car) (s .phones) → restoring h bytes ≡ doneWith h (storeWith s)
+restores : (h : Gate) (bytes : List ℕ) (cs : List CarIds) → InRange h → decoded bytes ≡ ok cs → restoring h bytes ≡ doneWith h (storeOf cs)
 unfolding step gives says served listing left view restore
-restores h bytes s r e = rw (r, e)
+restores h bytes cs r e = rw (r, e)
 
 -- ---- what was saved is restored
 
@@ -50,34 +53,53 @@ none-empty ((x ∷ p) ∷ ids) h =
     let some : eqb (length (x ∷ p)) 0 ≡ false = ne-eqb (length (x ∷ p)) 0 (λ (e : length (x ∷ p) ≡ 0). omega arith) in
     rw some (none-empty ids h)
 
-none-long : (ids : List (List ℕ)) → Short ids → anyLong ids ≡ false
-unfolding anyLong
-none-long [] h = refl
-none-long (p ∷ ids) h = rw (le-ltb 32 (length p) (h zero)) (none-long ids (λ i. h (suc i)))
+none-lacking : (ids : List (List ℕ)) → someFit ids ≡ true → contains [] ids ≡ false → lacking ids ≡ false
+unfolding lacking
+none-lacking [] s h = absurd (false≢true s)
+none-lacking (p ∷ ids) s h = none-empty (p ∷ ids) h
+
+all-readable : (cs : List CarIds) → allOf carFits cs ≡ true → someOf (λ (c : CarIds). contains [] (c .phones)) cs ≡ false → someOf unreadable cs ≡ false
+unfolding someOf unreadable allOf
+all-readable [] f h = refl
+all-readable (c ∷ cs) f h =
+    let p = none-cons (λ (x : CarIds). contains [] (x .phones)) c cs h in
+    let q = both (carFits c) _ f in
+    rw (none-lacking (c .phones) (q .0) (p .0)) (all-readable cs (q .1) (p .1))
+
+none-over : (cs : List CarIds) → allOf carFits cs ≡ true → over cs ≡ false
+unfolding over someOf allOf
+none-over [] f = refl
+none-over (c ∷ cs) f =
+    let q = both (carFits c) _ f in
+    rw (over-is (c .phones), ids-fit (c .phones) (q .0)) (none-over cs (q .1))
+
+each-digest : (cs : List CarIds) → allOf (λ (c : CarIds). eqb (length (c .car)) 32) cs ≡ true → Digests cs
+unfolding allOf
+each-digest [] h = tt
+each-digest (c ∷ cs) h = let p = both (eqb (length (c .car)) 32) _ h in (eqb-true (length (c .car)) 32 (p .0), each-digest cs (p .1))
 
 pub saved-restores : SavedRestores
-unfolding recordFor recordOf overLimits
+unfolding recordFor recordOf
 saved-restores g h r s t =
-    let v = g .phones .store in
-    let ids = storeIn v .phones in
-    let l = fits g r .store in
-    let few : overLimits ids ≡ false = rw (le-ltb 32 (length ids) (range-count (v .phones) l)) (none-long ids (range-short (v .phones) l)) in
-    let back = reads-back (v .car) ids (t .digest) (t .many) (none-empty ids (t .named)) few in
-    let w = recordFor (storeIn v) in
-    (w, saves g r, restores h (used w) (storeIn v) s (ap decoded (padded-take 1090 0 (encoded (v .car) ids)) ∙ back))
+    let cs = carsOf (g .phones .store) in
+    let f = store-fits (g .phones .store) (fits g r .store) in
+    let back = reads-back cs (t .many) (f .few) (each-digest cs (t .digests)) (f .apart) (all-readable cs (f .each) (t .named)) (none-over cs (f .each)) in
+    let w = recordFor cs in
+    (w, saves g r, restores h (used w) cs s (ap decoded (padded-take 4358 0 (encoded cs)) ∙ back))
 
 -- ---- what was restored is saved
 
--- a gate that answers done was in range, and took the bytes for a car and ids
-taken : (h : Gate) (bytes : List ℕ) → restoring h bytes .answer ≡ plain Done → (s : Store) × InRange h × (decoded bytes ≡ ok (s .car) (s .phones))
+-- a gate that answers done was in range, and took the bytes for some cars
+taken : (h : Gate) (bytes : List ℕ) → restoring h bytes .answer ≡ plain Done → (cs : List CarIds) × InRange h × (decoded bytes ≡ ok cs)
 unfolding step gives says served listing restore
 taken h bytes d = go (inRange (view h)) refl (decoded bytes) refl d
   where
     go : (b : Bool) → inRange (view h) ≡ b → (x : Reading) → decoded bytes ≡ x
         → laidReply (cond b (ofLists (view h) (Store.restoring x)) (asked (view h) (plain BadSettings)) .answer) ≡ plain Done
-        → (s : Store) × InRange h × (decoded bytes ≡ ok (s .car) (s .phones))
-    go true r (ok car ids) e d = (record { car = car; phones = ids }, r, e)
+        → (cs : List CarIds) × InRange h × (decoded bytes ≡ ok cs)
+    go true r (ok cs) e d = (cs, r, e)
     go true r malformed e d = absurd (false≢true cc)
+    go true r carTwice e d = absurd (false≢true cc)
     go true r tooLarge e d = absurd (false≢true cc)
     go false r x e d = absurd (false≢true cc)
 
@@ -87,13 +109,22 @@ restore-sized bytes = record {
   probe = λ bus frames count clock e. absurd (false≢true cc);
 }
 
-pub restored-saves : RestoredSaves
+-- what the gate answers afterwards, if these are the bytes of the cars that it took
+written : (h : Gate) (bytes again : List ℕ) (cs : List CarIds) → InRange h → decoded bytes ≡ ok cs → encoded cs ≡ again
+    → (length again ≤ 4358) × Saves (restoring h bytes .gate) (recordOf again)
 unfolding recordFor
-restored-saves h bytes d =
-    let (s, r, e) = taken h bytes d in
-    let w = accepted-well-formed bytes (s .car) (s .phones) e in
+written h bytes again cs r e w =
+    let a = accepted-well-formed bytes cs e in
+    let f = accepted-fits bytes cs e in
     let next = stays-in-range h (onLists (restorePhoneValidations bytes)) (restore-sized bytes) r in
-    let out : recordFor (storeIn (restoring h bytes .gate .phones .store)) ≡ recordOf bytes =
-    rw (restores h bytes s r e, phones-of-list (s .phones), written-back bytes (s .car) (s .phones) e)
-    in
-    (rw (w .0 .written) at (at-most-1090 (s .car) (s .phones) (w .0 .digest) (w .1)), rw out at (saves (restoring h bytes .gate) next))
+    let out : recordFor (carsOf (restoring h bytes .gate .phones .store)) ≡ recordOf again = rw (restores h bytes cs r e, cars-of-store cs, w) in
+    (rw w at (at-most-4358 cs (f .few) (a .0 .digests) (a .2)), rw out at (saves (restoring h bytes .gate) next))
+
+pub restored-saves : RestoredSaves
+restored-saves h body d = let (cs, r, e) = taken h (2 ∷ body) d in written h (2 ∷ body) (2 ∷ body) cs r e (written-back (2 ∷ body) cs e refl)
+
+pub older-saves : OlderSaves
+older-saves h body d =
+    let (cs, r, e) = taken h (1 ∷ body) d in
+    let v = version-one (1 ∷ body) cs e refl in
+    written h (1 ∷ body) (2 ∷ 1 ∷ body) cs r e (v .2 ∙ ap (λ (s : List ℕ). 2 ∷ s) (sym (v .1)))

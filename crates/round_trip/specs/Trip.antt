@@ -1,20 +1,20 @@
 -- Demand 2's round trip over the calls: what encode_phone_validations answers, restore_phone_validations takes back, on any gate, and
--- the other way round.
+-- the other way round. What is written is version 2 of the record (W-207).
 use Prim.Native.Nat.{ℕ, _≤_, _<_}
 use mathlib.Core.Path.{_≡_}
-use mathlib.Core.Bool.{false}
-use mathlib.Core.List.{List, []}
+use mathlib.Core.Bool.{true, false}
+use mathlib.Core.List.{List, [], _∷_}
+use lib.Dec.{eqb}
 use lib.ListN.{length, take}
-use Rattle.phones.specs.Ids.{contains}
-use Rattle.phones.specs.Phones.{listOf}
+use Rattle.phones.specs.Ids.{someOf, allOf, contains}
 use Rattle.saved_record.specs.declared.SavedRecord.{SavedRecord}
-use Rattle.saved_record.specs.SavedRecord.{recordOf}
-use Rattle.state.specs.declared.Validations.{Validations}
+use Rattle.saved_record.specs.declared.Store.{Store}
+use Rattle.saved_record.specs.SavedRecord.{CarIds, recordOf}
+use Rattle.saved_record.specs.Store.{carsOf, storeOf}
 use Rattle.state.specs.declared.Gate.{Gate}
 use Rattle.state.specs.declared.Answer.the-variants.{Done}
 use Rattle.state.specs.Answers.{numbered}
 use Rattle.state.specs.Replies.{noS, phoneAccessChanged, sending}
-use Rattle.state.specs.View.{Store, storeIn}
 use Rattle.answers.specs.Query.{plain, saved, encodePhoneValidations}
 use Rattle.definition.specs.Gate.{Given, nothing, onLists, ask, restorePhoneValidations, step}
 use Rattle.stays_in_range.specs.Stays.{InRange}
@@ -31,35 +31,38 @@ used r = take (r .len) (r .bytes)
 abbrev pub restoring : Gate → List ℕ → Given
 restoring h bytes = step h (onLists (restorePhoneValidations bytes))
 
--- a store in a canonical list: byte for byte the store that it is of, if that one's list is canonical
-abbrev pub storeWith : Store → Validations
-storeWith s = record { car = s .car; phones = listOf (s .phones) }
-
 -- done, A V raised, and the gate as it was but for its store
-abbrev pub doneWith : Gate → Validations → Given
-doneWith h v = record {
+abbrev pub doneWith : Gate → Store → Given
+doneWith h s = record {
   numbered = numbered Done;
   answer = plain Done;
   signals = sending phoneAccessChanged noS;
   lent = nothing;
-  gate = record { core = h .core; phones = record { paired = h .phones .paired; store = v }; code = h .code };
+  gate = record { core = h .core; phones = record { paired = h .phones .paired; store = s }; code = h .code };
 }
 
--- a store with something to save: one phone or more, none with an empty id; and what its type gives, car is a [u8; 32]
-pub record Storable (s : Store) : Type 0 where
-  pub digest : length (s .car) ≡ 32
-  pub many : 0 < length (s .phones)
-  pub named : contains [] (s .phones) ≡ false
+-- a store with something to save: one car or more, and no id that is empty under any; and what its type gives, car is a [u8; 32]
+pub record Storable (cs : List CarIds) : Type 0 where
+  pub digests : allOf (λ (c : CarIds). eqb (length (c .car)) 32) cs ≡ true
+  pub many : 0 < length cs
+  pub named : someOf (λ (c : CarIds). contains [] (c .phones)) cs ≡ false
 
 -- ---- the claims
 
--- a gate answers a record, and any gate takes its bytes back as the same car and ids
+-- a gate answers a record, and any gate takes its bytes back as the same cars and ids, in their order; their store is canonical, so it is
+-- byte for byte the one that was saved if that one is
 abbrev pub SavedRestores : Type 0
 SavedRestores =
-    (g h : Gate) → InRange g → InRange h → Storable (storeIn (g .phones .store))
-    → (r : SavedRecord) × Saves g r × (restoring h (used r) ≡ doneWith h (storeWith (storeIn (g .phones .store))))
+    (g h : Gate) → InRange g → InRange h → Storable (carsOf (g .phones .store))
+    → (r : SavedRecord) × Saves g r × (restoring h (used r) ≡ doneWith h (storeOf (carsOf (g .phones .store))))
 
--- bytes that a gate restores are at most 1,090, and the gate that it leaves answers exactly these bytes and their number
+-- bytes of version 2 that a gate restores are at most 4,358, and the gate that it leaves answers exactly these bytes and their number
 abbrev pub RestoredSaves : Type 0
 RestoredSaves =
-    (h : Gate) (bytes : List ℕ) → restoring h bytes .answer ≡ plain Done → (length bytes ≤ 1090) × Saves (restoring h bytes .gate) (recordOf bytes)
+    (h : Gate) (body : List ℕ) → restoring h (2 ∷ body) .answer ≡ plain Done → (length (2 ∷ body) ≤ 4358) × Saves (restoring h (2 ∷ body) .gate) (recordOf (2 ∷ body))
+
+-- of version 1, it answers those of version 2 with one car and the same body
+abbrev pub OlderSaves : Type 0
+OlderSaves =
+    (h : Gate) (body : List ℕ) → restoring h (1 ∷ body) .answer ≡ plain Done
+    → (length (2 ∷ 1 ∷ body) ≤ 4358) × Saves (restoring h (1 ∷ body) .gate) (recordOf (2 ∷ 1 ∷ body))

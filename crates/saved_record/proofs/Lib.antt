@@ -1,4 +1,7 @@
+pub mod Laws
+pub mod Parts
+pub mod Cars
 pub mod RoundTrip
 pub mod Cases
-pub mod Reading
 pub mod Writing
+pub mod Reading

@@ -1,52 +1,95 @@
--- The record written: the bytes before the phones, then the phones, zeros past them.
-use mathlib.Core.Path.{_≡_, refl, ap}
-use mathlib.Core.List.{List, [], _∷_, _++_}
-use Prim.Native.Nat.{ℕ, suc, _+_, _≤_}
+-- The record written: the bytes before the cars, then the part of each car, zeros past them.
+use mathlib.Core.Path.{_≡_, refl, _∙_}
+use mathlib.Core.List.{List, [], _∷_, _++_, append-assoc, append-nil}
+use Prim.Native.Nat.{ℕ, suc, _+_, _*_, _≤_, _<_}
+use native.Mathlib.Numerals.{add-one}
 use native.Mathlib.Omega.{arith}
-use lib.ListN.{length, set, replicate, length-append}
-use lib.Seq.{append-snoc}
+use lib.ListN.{length, take, getD, set, replicate, length-append, length-replicate, length-set}
+use lib.Seq.{take-all, take-suc}
 use Rattle.arrays.specs.Arrays.{padded, put}
-use Rattle.arrays.proofs.Laws.{padded-push, put-padded}
+use Rattle.arrays.proofs.Laws.{padded-push, put-length, put-padded}
 use Rattle.phone_fields.specs.PhoneFields.{fields}
+use Rattle.phone_fields.proofs.Writing.{put-byte, put-put}
 use Rattle.saved_record.specs.declared.SavedRecord.{SavedRecord}
-use Rattle.saved_record.specs.SavedRecord.{encoded, recordOf}
+use Rattle.saved_record.specs.SavedRecord.{CarIds, carPart, carParts, encoded, recordOf, noRecord}
+use Rattle.saved_record.specs.Steps.{PutPart}
 
--- ---- the bytes before the phones
+-- ---- a car's part
 
-module _ (room : ℕ) (car : List ℕ) (n : ℕ) (digest : length car ≡ 32) (fits : 34 ≤ room) where
-  head-written : set (put (set (padded {A = ℕ} room 0 []) 0 1) 1 car) 33 n ≡ padded room 0 (1 ∷ car ++ (n ∷ []))
-  head-written =
-      let one : set (padded {A = ℕ} room 0 []) 0 1 ≡ padded room 0 (1 ∷ []) = padded-push {A = ℕ} room 0 1 [] (omega arith) in
-      let l : length (1 ∷ car) ≡ 33 = ap suc digest in
-      rw (one, put-padded room 0 (1 ∷ []) car, ← l) (padded-push {A = ℕ} room 0 n (1 ∷ car) (omega arith))
+pub part-length : (c : CarIds) → length (carPart c) ≡ length (c .car) + 1 + length (fields (c .phones))
+unfolding carPart
+part-length c = length-append (c .car) (length (c .phones) ∷ fields (c .phones)) ∙ (let e : length (c .car) + suc (length (fields (c .phones))) ≡ length (c .car) + 1 + length (fields (c .phones)) = omega arith in e)
 
-  head-length : length (1 ∷ car ++ (n ∷ [])) ≡ 34
-  head-length = rw (length-append car (n ∷ [])) (omega arith)
+-- a digest, a count and the phones, each right after the one before
+pub put-part : (d : List ℕ) (at : ℕ) (c : CarIds) (n : ℕ) → length (c .car) ≡ 32 → n ≡ length (c .phones) → at + length (carPart c) ≤ length d
+    → put (set (put d at (c .car)) (at + 32) n) (at + 33) (fields (c .phones)) ≡ put d at (carPart c)
+unfolding carPart
+put-part d at c n far en room =
+    let l = length-append (c .car) (length (c .phones) ∷ fields (c .phones)) in
+    let long = put-length d at (c .car) (omega arith) in
+    let e : at + 33 ≡ at + 32 + 1 = omega arith in
+    rw (e, put-byte (put d at (c .car)) (at + 32) n (fields (c .phones)) (omega arith), ← far, put-put d at (c .car) (n ∷ fields (c .phones)) (omega arith), en)
 
-  whole-written : (ps : List (List ℕ)) → put (set (put (set (padded {A = ℕ} room 0 []) 0 1) 1 car) 33 n) 34 (fields ps) ≡ padded room 0 (1 ∷ car ++ (n ∷ fields ps))
-  whole-written ps =
-      rw (head-written, ← head-length, put-padded room 0 (1 ∷ car ++ (n ∷ [])) (fields ps), append-snoc (1 ∷ car) n (fields ps))
+-- ---- the parts one after the other
 
--- ---- the record
+parts-snoc : (cs : List CarIds) (c : CarIds) → carParts (cs ++ (c ∷ [])) ≡ carParts cs ++ carPart c
+unfolding carParts
+parts-snoc [] c = append-nil (carPart c)
+parts-snoc (b ∷ cs) c = rw (parts-snoc cs c, append-assoc (carPart b) (carParts cs) (carPart c))
 
-whole-zeros : (car : List ℕ) (n : ℕ) → length car ≡ 32 → (ps : List (List ℕ))
-    → put (set (put (set (replicate 1090 0) 0 1) 1 car) 33 n) 34 (fields ps) ≡ padded 1090 0 (1 ∷ car ++ (n ∷ fields ps))
-unfolding padded
-whole-zeros car n digest ps = whole-written 1090 car n digest (omega arith) ps
+-- where the loop stands: the parts of the first i cars stand after the two bytes before them
+pub record Filled (cs : List CarIds) (bytes : List ℕ) (len i : ℕ) : Type 0 where
+  pub holds : bytes ≡ padded 4358 0 (2 ∷ length cs ∷ carParts (take i cs))
+  pub place : len ≡ length (2 ∷ length cs ∷ carParts (take i cs))
+  pub long : length bytes ≡ 4358
+  pub room : len ≤ 2 + 1089 * i
 
-pub record-empty : (car : List ℕ) (ps : List (List ℕ)) → length ps ≡ 0 → _≡_ {A = SavedRecord} (record { bytes = replicate 1090 0; len = 0 }) (recordOf (encoded car ps))
-unfolding recordOf encoded padded
-record-empty car [] h = refl
-record-empty car (p ∷ ps) h = absurd (omega arith)
+head-written : (room n : ℕ) → 2 ≤ room → set (set (padded {A = ℕ} room 0 []) 0 2) 1 n ≡ padded room 0 (2 ∷ n ∷ [])
+head-written room n h =
+    let one : set (padded {A = ℕ} room 0 []) 0 2 ≡ padded room 0 (2 ∷ []) = padded-push {A = ℕ} room 0 2 [] (omega arith) in
+    rw one (padded-push {A = ℕ} room 0 n (2 ∷ []) (omega arith))
 
-pub record-written : (car : List ℕ) (ps : List (List ℕ)) (n : ℕ) (bytes : List ℕ) (at : ℕ) → length car ≡ 32 → n ≡ length ps → (n ≡ 0 → ⊥)
-    → at ≡ 34 + length (fields ps)
-    → bytes ≡ put (set (put (set (replicate 1090 0) 0 1) 1 car) 33 n) 34 (fields ps)
-    → _≡_ {A = SavedRecord} (record { bytes = bytes; len = at }) (recordOf (encoded car ps))
+pub filled-none : (cs : List CarIds) (n : ℕ) → length cs ≡ n → Filled cs (set (set (replicate 4358 0) 0 2) 1 n) 2 0
+unfolding carParts padded
+filled-none cs n e =
+    record {
+      holds = rw e (head-written 4358 n (omega arith));
+      place = refl;
+      long = rw (length-set, length-set) (length-replicate {A = ℕ} 4358 0);
+      room = omega arith;
+    }
+
+module _ (cs : List CarIds) (bytes : List ℕ) (len i : ℕ) (w : Filled cs bytes len i) where
+  pub filled-more : (d : CarIds) → i < length cs → (next : List ℕ) (to : ℕ) → i < 4 → PutPart bytes len (getD cs i d) next to → Filled cs next to (i + 1)
+  filled-more d more next to few p =
+      let c = getD cs i d in
+      let x : List ℕ = 2 ∷ length cs ∷ carParts (take i cs) in
+      let e : carParts (take (i + 1) cs) ≡ carParts (take i cs) ++ carPart c = rw (add-one, take-suc cs i d more) (parts-snoc (take i cs) c) in
+      let l : len ≡ length x = w .place in
+      let a = length-append (carParts (take i cs)) (carPart c) in
+      let pl = p .place in
+      let sh = p .short in
+      let rm = w .room in
+      let lg = w .long in
+      record {
+        holds = rw (p .bytes, w .holds, l, e) (put-padded 4358 0 x (carPart c));
+        place = rw e (omega (arith, w .place));
+        long = rw (p .bytes) (put-length bytes len (carPart c) (omega arith) ∙ lg);
+        room = omega arith;
+      }
+
+pub filled-all : (cs : List CarIds) (bytes : List ℕ) (len i : ℕ) → Filled cs bytes len i → (length cs ≡ 0 → ⊥) → length cs ≤ i
+    → _≡_ {A = SavedRecord} (record { bytes = bytes; len = len }) (recordOf (encoded cs))
 unfolding recordOf encoded
-record-written car [] n bytes at digest en some-phones ea eb = absurd (some-phones en)
-record-written car (p ∷ ps) n bytes at digest en some-phones ea eb =
-    let a = length-append car (length (p ∷ ps) ∷ fields (p ∷ ps)) in
-    let l : at ≡ length (1 ∷ car ++ (length (p ∷ ps) ∷ fields (p ∷ ps))) = omega arith in
-    let b : bytes ≡ padded 1090 0 (1 ∷ car ++ (length (p ∷ ps) ∷ fields (p ∷ ps))) = rw (eb, whole-zeros car n digest (p ∷ ps), en) in
+filled-all [] bytes len i w some-cars h = absurd (some-cars refl)
+filled-all (c ∷ cs) bytes len i w some-cars h =
+    let full : take i (c ∷ cs) ≡ c ∷ cs = take-all i (c ∷ cs) h in
+    let l : len ≡ length (2 ∷ length (c ∷ cs) ∷ carParts (c ∷ cs)) = rw full at (w .place) in
+    let b : bytes ≡ padded 4358 0 (2 ∷ length (c ∷ cs) ∷ carParts (c ∷ cs)) = rw full at (w .holds) in
     λ j. record { bytes = b j; len = l j }
+
+-- an empty store
+pub none-written : (cs : List CarIds) → length cs ≡ 0 → noRecord ≡ recordOf (encoded cs)
+unfolding noRecord encoded
+none-written [] h = refl
+none-written (c ∷ cs) h = absurd (omega arith)

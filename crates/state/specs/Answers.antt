@@ -2,7 +2,7 @@
 use Prim.Native.Nat.{ℕ}
 use Rattle.state.specs.declared.SessionReply.{SessionReply}
 use Rattle.state.specs.declared.Answer.{Answer}
-use Rattle.state.specs.declared.Answer.the-variants.{Done, Yes, No, Nothing, Count, Number, Reason, Session, UnknownMethod, CarNotIdentified, CoolingDown, OtherPhoneSession, MethodUnavailable, MethodNotAvailableNow, NoRandomSource, NoSession, NotCodeEntry, WrongCode, NoDevLock, NotNeeded, Logging, BusAsleep, Busy, NoAttemptsLeft, Invalid, IdTooLong, RandomSpent, NotText, ListFull, Malformed, TooLarge, BadFrame, BadSettings}
+use Rattle.state.specs.declared.Answer.the-variants.{Done, Yes, No, Nothing, Count, Number, Reason, Session, UnknownMethod, CarNotIdentified, CoolingDown, OtherPhoneSession, MethodUnavailable, MethodNotAvailableNow, NoRandomSource, NoSession, NotCodeEntry, WrongCode, NoDevLock, NotNeeded, Logging, BusAsleep, Busy, NoAttemptsLeft, Invalid, IdTooLong, RandomSpent, NotText, ListFull, Malformed, TooLarge, BadFrame, BadSettings, CarTwice}
 
 -- 0 for one that is no refusal
 abbrev pub number : Answer → ℕ
@@ -39,6 +39,7 @@ number Malformed = 22
 number TooLarge = 23
 number BadFrame = 24
 number BadSettings = 25
+number CarTwice = 28
 
 -- what stands beside the number: nothing; done, yes, no or none; or a value
 pub data Values : Type 0 where
@@ -80,6 +81,7 @@ values Malformed = noValue
 values TooLarge = noValue
 values BadFrame = noValue
 values BadSettings = noValue
+values CarTwice = noValue
 
 pub record Numbered : Type 0 where
   pub number : ℕ

@@ -4,6 +4,7 @@ use mathlib.Core.List.{List}
 use Prim.Native.Nat.{ℕ}
 use lib.ListN.{replicate}
 use Rattle.saved_record.specs.declared.SavedRecord.{SavedRecord}
+use Rattle.saved_record.specs.SavedRecord.{noRecord}
 use Rattle.state.specs.declared.Car.{Car}
 use Rattle.state.specs.declared.Core.{Core}
 use Rattle.state.specs.declared.Answer.{Answer}
@@ -25,10 +26,6 @@ use Rattle.state.specs.declared.Said.{Said}
 -- no digest: erase
 abbrev pub noCar : Car
 noCar = record { known = false; digest = replicate 32 0 }
-
--- the record of an empty store, of zero bytes: erase
-abbrev pub noRecord : SavedRecord
-noRecord = record { bytes = replicate 1090 0; len = 0 }
 
 -- CHALLENGE while no session is in progress
 abbrev pub noChallenge : Challenge
@@ -73,9 +70,9 @@ phoneAccessChanged = record { access = true; availability = true; readonly = noR
 unfoldable pub readOnlyChanged : Bool → Raised
 readOnlyChanged v = record { access = true; availability = false; readonly = sentR v; approval = noP; challenge = noC }
 
--- a changed approval: P R A, and V if it empties the store
-unfoldable pub approvalChanged : Car → Bool → Bool → Raised
-approvalChanged car v empties = record { access = true; availability = empties; readonly = sentR v; approval = sentP car; challenge = noC }
+-- a changed approval: P R A
+unfoldable pub approvalChanged : Car → Bool → Raised
+approvalChanged car v = record { access = true; availability = false; readonly = sentR v; approval = sentP car; challenge = noC }
 
 -- a challenge that started or ended, and after_change: C A V
 unfoldable pub challengeChanged : Challenge → Raised

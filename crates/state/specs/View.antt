@@ -1,11 +1,16 @@
 -- What a call sees of a gate: all of it but how its lists lie. That is known to `phonesOf` and `listInRange`, here in `view`, and to
 -- `laid`, here in `laidPhones`; nothing above looks there.
-use mathlib.Core.Bool.{Bool, false}
+use mathlib.Core.Bool.{Bool, false, cond, not, _&&_}
 use mathlib.Core.List.{List}
 use Prim.Native.Nat.{ℕ}
-use Rattle.phones.specs.Ids.{Left, stays, becomes}
-use Rattle.phones.specs.Phones.{phonesOf, listOf, listInRange, laid}
-use Rattle.state.specs.declared.Validations.{Validations}
+use lib.Dec.{eqb, ltb}
+use lib.ListN.{length, take}
+use Rattle.phones.specs.Ids.{Left, stays, becomes, allOf}
+use Rattle.phones.specs.Phones.{phonesOf, listInRange, laid}
+use Rattle.saved_record.specs.declared.CarPhones.{CarPhones}
+use Rattle.saved_record.specs.declared.Store.{Store}
+use Rattle.saved_record.specs.SavedRecord.{CarIds, twice}
+use Rattle.saved_record.specs.Store.{carsOf, storeOf}
 use Rattle.state.specs.declared.Core.{Core}
 use Rattle.state.specs.declared.Phones.{Phones}
 use Rattle.state.specs.declared.Gate.{Gate}
@@ -16,17 +21,12 @@ use Rattle.state.specs.Replies.{nothingRaised}
 
 -- ---- what is seen
 
--- the store of validated phones: a car and its phones' ids; none exactly if there is no phone
-pub record Store : Type 0 where
-  pub car : List ℕ
-  pub phones : List (List ℕ)
-
--- the ids of both lists
+-- the ids of both lists; the store of validated phones has up to four cars, in order of first validation (W-207)
 pub record Lists : Type 0 where
   pub paired : List (List ℕ)
-  pub store : Store
+  pub store : List CarIds
 
--- a gate; `pairedFits`, `storeFits`: the counts and lengths of that list are in range
+-- a gate; `pairedFits`, `storeFits`: the counts and lengths of that list, or of the store, are in range, and no digest stands under two cars
 pub record View : Type 0 where
   pub core : Core
   pub lists : Lists
@@ -42,7 +42,7 @@ pub record Listing : Type 0 where
   pub raised : Raised
   pub stores : Bool
   pub paired : Left (List (List ℕ))
-  pub store : Left Store
+  pub store : Left (List CarIds)
 
 -- both lists stay
 unfoldable pub listsStay : Raised → Answer → Listing
@@ -50,30 +50,31 @@ listsStay r a = record { answer = a; raised = r; stores = false; paired = stays;
 
 -- ---- how lists lie
 
-abbrev pub storeIn : Validations → Store
-storeIn v = record { car = v .car; phones = phonesOf (v .phones) }
+-- a car in use has 1 to 32 phones
+unfoldable pub carInRange : CarPhones → Bool
+carInRange c = not (eqb (length (phonesOf (c .phones))) 0) && listInRange (c .phones)
+
+-- at most four cars, each of them in range, and no digest under two of them; what stands past the count is not looked at
+unfoldable pub storeInRange : Store → Bool
+storeInRange s = cond (ltb 4 (s .count)) false (allOf carInRange (take (s .count) (s .cars)) && not (twice (carsOf s)))
 
 abbrev pub listsIn : Phones → Lists
-listsIn p = record { paired = phonesOf (p .paired); store = storeIn (p .store) }
+listsIn p = record { paired = phonesOf (p .paired); store = carsOf (p .store) }
 
 unfoldable pub view : Gate → View
 view g = record {
   core = g .core;
   lists = listsIn (g .phones);
   pairedFits = listInRange (g .phones .paired);
-  storeFits = listInRange (g .phones .store .phones);
+  storeFits = storeInRange (g .phones .store);
   code = g .code;
 }
 
--- a store laid canonically
-abbrev pub validationsOf : Store → Validations
-validationsOf s = record { car = s .car; phones = listOf (s .phones) }
-
-abbrev pub laidStore : Validations → Left Store → Validations
+abbrev pub laidStore : Store → Left (List CarIds) → Store
 laidStore v stays = v
-laidStore v (becomes s) = validationsOf s
+laidStore v (becomes cs) = storeOf cs
 
-abbrev pub laidPhones : Phones → Left (List (List ℕ)) → Left Store → Phones
+abbrev pub laidPhones : Phones → Left (List (List ℕ)) → Left (List CarIds) → Phones
 laidPhones p paired store = record { paired = laid (p .paired) paired; store = laidStore (p .store) store }
 
 -- what an operation on lists gives, of what it says

@@ -8,6 +8,7 @@ use frames::ProbeFrame;
 use phones::PhoneList;
 use phones::ShortId;
 use saved_record::SavedRecord;
+use saved_record::Store;
 
 // ValidationKind.
 pub enum Kind {
@@ -83,12 +84,6 @@ pub struct Policy {
     pub buses: Buses,
 }
 
-// Validations: a car and the phones validated in it; none exactly if the list is empty.
-pub struct Validations {
-    pub car: [u8; 32],
-    pub phones: PhoneList,
-}
-
 // Session of validation.rs, without its code and its tries.
 pub struct Session {
     pub present: bool,
@@ -144,7 +139,7 @@ pub struct Core {
 // The lists: who is paired, and who is validated.
 pub struct Phones {
     pub paired: PhoneList,
-    pub store: Validations,
+    pub store: Store,
 }
 
 pub struct Gate {
@@ -199,6 +194,7 @@ pub enum Answer {
     TooLarge,
     BadFrame,
     BadSettings,
+    CarTwice,
 }
 
 // CAN_READ_ONLY_WATCH.

@@ -11,9 +11,8 @@ use crate::ReadOnlySignal;
 use crate::Said;
 use crate::Signals;
 use crate::ValidationsSignal;
-use saved_record::SavedRecord;
 ghost use mathlib.Core.Path.{_≡_};
-ghost use Rattle.state.specs.Replies.{noCar, noRecord, noChallenge, noS, nothingRaised, phoneAccessChanged, readOnlyChanged, approvalChanged, challengeChanged, noSignals, yesNo, codeAt};
+ghost use Rattle.state.specs.Replies.{noCar, noChallenge, noS, nothingRaised, phoneAccessChanged, readOnlyChanged, approvalChanged, challengeChanged, noSignals, yesNo, codeAt};
 ghost use Rattle.state.specs.Replies as Replies;
 
 pub fn no_car() -> Car
@@ -24,13 +23,6 @@ pub fn no_car() -> Car
         known: false,
         digest,
     }
-}
-
-pub fn no_record() -> SavedRecord
-    ensures { λ r. ⌜ r ≡ noRecord ⌝ }
-{
-    let bytes = [0u8; 1090];
-    SavedRecord { bytes, len: 0 }
 }
 
 pub fn no_challenge() -> Challenge
@@ -87,12 +79,11 @@ pub fn read_only_changed(value: bool) -> Raised
     s
 }
 
-// An approval that was given or revoked; `empties`: with it the store.
-pub fn approval_changed(car: Car, value: bool, empties: bool) -> Raised
-    ensures { λ r. ⌜ r ≡ approvalChanged car value empties ⌝ }
+// An approval that was given or revoked.
+pub fn approval_changed(car: Car, value: bool) -> Raised
+    ensures { λ r. ⌜ r ≡ approvalChanged car value ⌝ }
 {
     let mut s = read_only_changed(value);
-    s.availability = empties;
     let approval = ApprovalSignal { sent: true, car };
     s.approval = approval;
     s
@@ -115,7 +106,7 @@ pub fn challenge_changed(challenge: Challenge) -> Raised
 pub fn no_stored() -> ValidationsSignal
     ensures { λ r. ⌜ r ≡ noS ⌝ }
 {
-    let stored = no_record();
+    let stored = saved_record::no_record();
     ValidationsSignal {
         sent: false,
         stored,

@@ -1,27 +1,24 @@
 -- Every call on a gate in range leaves one in range: a line or two for each.
 use Prim.Native.Nat.{ℕ, _≤_}
 use mathlib.Core.Path.{_≡_, refl, _∙_}
-use mathlib.Core.Bool.{Bool, true, false, and-eq-true-iff, true≢false}
-use mathlib.Core.List.{List, [], _∷_, map}
-use native.Mathlib.Omega.{arith}
+use mathlib.Core.Bool.{Bool, true, false, and-eq-true-iff}
+use mathlib.Core.List.{List, [], _∷_, _++_, map}
 use borrow.Author.Tests.{leb-false, lt-ltb, ltb-false, not-true, not-false}
-use lib.Dec.{ltb, eqb}
+use lib.Dec.{ltb}
 use lib.ListN.{length}
 use Rattle.phones.specs.declared.PhoneList.{PhoneList}
-use Rattle.phones.specs.Ids.{someOf, Left, stays, becomes}
-use Rattle.phones.specs.Phones.{idBytes, listOf, laid, listInRange}
-use Rattle.phones.proofs.Range.{id-range, short-snoc, list-range, range-append, range-first, range-all, range-retain}
+use Rattle.phones.specs.Ids.{someOf, removeAll, retainIn, Left, stays, becomes, roomFor, pushed}
+use Rattle.phones.specs.Phones.{idBytes, laid, listInRange}
+use Rattle.phones.proofs.Range.{id-range, range-all, range-retain, range-first, range-append}
 use Rattle.frames.specs.declared.ProbeFrame.{ProbeFrame}
 use Rattle.frames.specs.declared.TxClass.the-variants.{Platform, Command}
-use Rattle.phone_fields.specs.PhoneFields.{anyLong, overLimits}
-use Rattle.phone_fields.proofs.Laws.{none-long-short}
-use Rattle.saved_record.specs.SavedRecord.{Reading, malformed, tooLarge, ok, decoded}
-use Rattle.saved_record.proofs.RoundTrip.{accepted-well-formed}
+use Rattle.saved_record.specs.declared.Store.{Store}
+use Rattle.saved_record.specs.SavedRecord.{CarIds, hasCar, Reading, malformed, carTwice, tooLarge, ok, decoded}
+use Rattle.saved_record.specs.Store.{carsOf}
 use Rattle.state.specs.declared.Kind.{Kind}
 use Rattle.state.specs.declared.Kind.the-variants.{CodeEntry, InCarAction}
 use Rattle.state.specs.declared.Status.{Status}
 use Rattle.state.specs.declared.Status.the-variants.{Cancelled, TimedOut}
-use Rattle.state.specs.declared.Validations.{Validations}
 use Rattle.state.specs.declared.Core.{Core}
 use Rattle.state.specs.declared.Gate.{Gate}
 use Rattle.state.specs.declared.Answer.{Answer}
@@ -31,14 +28,14 @@ use Rattle.state.specs.declared.Ended.{Ended}
 use Rattle.state.specs.Running.{inProgress}
 use Rattle.state.specs.Replies.{leave, quiet, reply, notified, finish}
 use Rattle.state.specs.Checks.{unmet}
-use Rattle.state.specs.View.{Store, View, listsStay, storeIn, listsIn, view, laidStore}
-use Rattle.range.specs.Range.{within, methodsFit, triesFit, sessionFits, windowFits}
-use Rattle.can_access.specs.Approval as Access
+use Rattle.state.specs.View.{View, listsStay, storeInRange, listsIn, view, laidStore}
+use Rattle.range.specs.Range.{methodsFit, triesFit, sessionFits, windowFits}
+use Rattle.range.proofs.Stores.{CarsFit, store-fits}
 use Rattle.policy_changes.specs.Changes as Changes
 use Rattle.car_identity.specs.CarIdentity as CarIdentity
 use Rattle.can.specs.Can as Can
 use Rattle.pairing.specs.Pairing as Pairing
-use Rattle.validations.specs.Store.{storeOf, storing, forgetting, pruning, restoring, ofCar, validating}
+use Rattle.validations.specs.Store.{phonesFor, storing, forgetting, pruning, restoring, ofCar, validating}
 use Rattle.validations.specs.Store as Store
 use Rattle.probe_window.specs.declared.Unsent.{Unsent}
 use Rattle.probe_window.specs.declared.Unsent.the-variants.{At, Nothing}
@@ -49,52 +46,56 @@ use Rattle.session.specs.declared.Lapse.{Lapse}
 use Rattle.session.specs.declared.Lapse.the-variants.{Stays, Ends}
 use Rattle.session.specs.Session.{endedAs, cannotGoOn, lapseOf, placeOf}
 use Rattle.validation.specs.Calls as Validation
-use Rattle.definition.specs.Gate.{SessionCall, ListCall, CoreCall, onCore, saying, ofSession, ofApproval, ofLists, ended, listing, said, left}
+use Rattle.definition.specs.Gate.{SessionCall, ListCall, CoreCall, onCore, saying, ofSession, ofLists, ended, listing, said, left}
 use Rattle.definition.specs.Gate as Gate
 use Rattle.footprint.specs.Footprint.{inCore, peer, probe, coreTouches, isIn}
 use Rattle.footprint.proofs.Core.{core-keeps, core-beside}
 use Rattle.stays_in_range.specs.Stays.{Sized}
+use Rattle.stays_in_range.proofs.Cars.{store-in, empty-store, every-fits, has-fits, last-fits, empty-list, one-fits, more-fits, for-fits, accepted-fits}
 use Rattle.stays_in_range.proofs.Parts.{Fitting, Fits, full-fits, fewer-fits, phone-short, window-opens, Leaves, Holds, cases, if-cond, if-checked, short-id}
 
 -- ---- lists
 
-pub empty-range : listInRange (listOf []) ≡ true
-empty-range = list-range [] (omega arith) (λ i. omega arith)
-
-one-range : (id : List ℕ) → length id ≤ 32 → listInRange (listOf (id ∷ [])) ≡ true
-one-range id k = list-range (id ∷ []) (omega arith) (short-snoc id [] k (λ i. omega arith))
-
--- what becomes of a list in range is in range
+-- what becomes of a list, or of a store, in range is in range
 abbrev ListFits : PhoneList → Left (List (List ℕ)) → Type 0
 ListFits l x = listInRange (laid l x) ≡ true
 
-abbrev StoreFits : Validations → Left Store → Type 0
-StoreFits v y = listInRange (laidStore v y .phones) ≡ true
+abbrev StoreFits : Store → Left (List CarIds) → Type 0
+StoreFits v y = storeInRange (laidStore v y) ≡ true
 
-module _ (v : Validations) (h : listInRange (v .phones) ≡ true) where
-  store-of : (car : List ℕ) (ps : List (List ℕ)) → listInRange (listOf ps) ≡ true → Holds (StoreFits v) (becomes (storeOf car ps))
-  unfolding storeOf
-  store-of car ps k = record { holds = cases (λ (s : Store). listInRange (listOf (s .phones)) ≡ true) (eqb (length ps) 0) _ _ (λ e. empty-range) (λ e. k) }
+module _ (v : Store) (h : storeInRange v ≡ true) where
+  f : CarsFit (carsOf v)
+  f = store-fits v h
 
-  of-car : (car : List ℕ) (x : Left (List (List ℕ))) → ListFits (v .phones) x → Holds (StoreFits v) (ofCar car x)
-  of-car car stays k = search
-  of-car car (becomes ps) k = search
+  store-of : (cs : List CarIds) → CarsFit cs → Holds (StoreFits v) (becomes cs)
+  store-of cs k = record { holds = store-in cs k }
 
-  validating-fits : (car id : List ℕ) → length id ≤ 32 → Holds (StoreFits v) (validating (storeIn v) car id)
-  unfolding validating
-  validating-fits car id k = search (if-cond, of-car, range-append, one-range)
+  forgetting-fits : (id : List ℕ) → Holds (StoreFits v) (forgetting (carsOf v) id)
+  unfolding forgetting
+  forgetting-fits id = let k = every-fits (removeAll id) (range-all id) (carsOf v) f in search (if-cond, store-of)
 
--- what is accepted is within the limits
-limits-range : (ps : List (List ℕ)) → overLimits ps ≡ false → listInRange (listOf ps) ≡ true
-unfolding overLimits
-limits-range ps h =
-    cases (λ (b : Bool). b ≡ false → listInRange (listOf ps) ≡ true) (ltb 32 (length ps)) true (anyLong ps)
-    (λ e q. absurd (true≢false q))
-    (λ e q. list-range ps (ltb-false 32 (length ps) e) (none-long-short ps q))
-    h
+  pruning-fits : (paired : List (List ℕ)) → Holds (StoreFits v) (pruning (record { paired = paired; store = carsOf v }))
+  unfolding pruning
+  pruning-fits paired = let k = every-fits (retainIn paired) (range-retain paired) (carsOf v) f in search (if-cond, store-of)
+
+  module _ (car id : List ℕ) (k : length id ≤ 32) where
+    pushed-fits : Holds (StoreFits v) (ofCar car (carsOf v) (pushed id (phonesFor car (carsOf v))))
+    unfolding pushed
+    pushed-fits =
+        let ps = phonesFor car (carsOf v) in
+        cases (λ (x : Left (List (List ℕ))). Holds (StoreFits v) (ofCar car (carsOf v) x)) (roomFor id ps) _ _
+        (λ r. store-of _ (has-fits car (ps ++ (id ∷ [])) (more-fits id ps k r (for-fits car (carsOf v) (f .each))) (carsOf v) f))
+        (λ r. search)
+
+    validating-fits : Holds (StoreFits v) (validating (carsOf v) car id)
+    unfolding validating
+    validating-fits =
+        if-cond (hasCar car (carsOf v)) _ _
+        (λ e. search (if-cond, pushed-fits))
+        (λ e. store-of _ (last-fits car (id ∷ []) (one-fits id k) (carsOf v) f e))
 
 module _ (g : Gate) (h : Fits g) where
-  storing-fits : (a : Answer) (x : Left (List (List ℕ))) (y : Left Store) → Holds (ListFits (g .phones .paired)) x → Holds (StoreFits (g .phones .store)) y
+  storing-fits : (a : Answer) (x : Left (List (List ℕ))) (y : Left (List CarIds)) → Holds (ListFits (g .phones .paired)) x → Holds (StoreFits (g .phones .store)) y
       → Holds (Leaves g ofLists) (storing a x y)
   unfolding left view
   storing-fits a x stays p s = search
@@ -102,17 +103,18 @@ module _ (g : Gate) (h : Fits g) where
 
   restoring-fits : (bytes : List ℕ) (r : Reading) → decoded bytes ≡ r → Holds (Leaves g ofLists) (restoring r)
   unfolding left view
-  restoring-fits bytes malformed e = search empty-range
-  restoring-fits bytes tooLarge e = search empty-range
-  restoring-fits bytes (ok car ps) e = let k = limits-range ps (accepted-well-formed bytes car ps e .1) in search
+  restoring-fits bytes malformed e = search empty-store
+  restoring-fits bytes carTwice e = search empty-store
+  restoring-fits bytes tooLarge e = search empty-store
+  restoring-fits bytes (ok cs) e = let k = store-in cs (accepted-fits bytes cs e) in search
 
   pub fit-listing : (k : ListCall) → Holds (Leaves g ofLists) (listing (listsIn (g .phones)) (g .core .settings .bonded) k)
-  unfolding listing left view Pairing.pair Pairing.unpairing Pairing.unpair Pairing.clear forgetting Store.forget pruning Store.prune Store.restore listsStay
+  unfolding listing left view Pairing.pair Pairing.unpairing Pairing.unpair Pairing.clear Store.forget Store.prune Store.restore listsStay
   fit-listing (Gate.addPairedPhone id) = if-checked (listsStay _) _ _ (λ a. search) (λ u. let s = short-id id _ _ u in search (if-cond, range-append))
-  fit-listing (Gate.removePairedPhone id) = search (storing-fits, if-cond, range-first, store-of, range-all)
-  fit-listing Gate.clearPairedPhones = search empty-range
-  fit-listing (Gate.forgetPhoneValidation id) = search (storing-fits, if-cond, store-of, range-all)
-  fit-listing Gate.prunePhoneValidations = search (storing-fits, if-cond, store-of, range-retain)
+  fit-listing (Gate.removePairedPhone id) = search (storing-fits, if-cond, range-first, forgetting-fits)
+  fit-listing Gate.clearPairedPhones = search (empty-list, empty-store)
+  fit-listing (Gate.forgetPhoneValidation id) = search (storing-fits, forgetting-fits)
+  fit-listing Gate.prunePhoneValidations = search (storing-fits, pruning-fits)
   fit-listing (Gate.restorePhoneValidations bytes) = restoring-fits bytes (decoded bytes) refl
 
 -- ---- sessions
@@ -210,11 +212,6 @@ module _ (g : Gate) (h : Fits g) where
   fit-ended full (Gate.completeValidationAction number clock) = fit-complete number clock full
   fit-ended full (Gate.tickValidation clock) = search (unvalidated, fit-tick)
 
-  pub fit-approve : (other : Bool) → Holds (Leaves g ofApproval) (Access.approve (g .core) other)
-  unfolding left saying view Access.approve leave reply
-  fit-approve true = search (if-checked, empty-range)
-  fit-approve false = search if-checked
-
 -- ---- the calls on the core
 
 module _ (c : Core) (h : Fitting c) where
@@ -245,6 +242,7 @@ module _ (v : View) (h : Fitting (v .core)) where
   pub fit-said : (k : CoreCall) → Sized (onCore k) → Holds SaidFits (said (v .core) (v .lists) k)
   unfolding said someOf leave quiet reply notified windowFits Pairing.setPeer CarIdentity.revokePlatform Changes.policyChanged Changes.relocked Probe.closeProbe Probe.windowChanged Probe.heard heardAt Can.setReadOnly Tx.allow Tx.allowPlatform Tx.throughWindow
   fit-said (Gate.setBlePeer id) z = if-checked (leave (v .core)) _ _ (λ a. search) (λ u. let s = short-id id _ _ u in search (if-cond, id-range))
+  fit-said Gate.approveCanReadWrite z = untouched z refl refl
   fit-said Gate.revokeCanReadWriteApproval z = untouched z refl refl
   fit-said (Gate.restoreCanReadWriteApproval approval) z = untouched z refl refl
   fit-said (Gate.setCanDevWriteUnlocked unlocked) z = untouched z refl refl

@@ -1,4 +1,5 @@
 pub mod Parts
+pub mod Cars
 pub mod Calls
 pub mod Proved
 pub mod Needed

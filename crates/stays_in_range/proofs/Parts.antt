@@ -19,7 +19,7 @@ use Rattle.state.specs.declared.Gate.{Gate}
 use Rattle.state.specs.declared.Answer.{Answer}
 use Rattle.state.specs.Running.{inProgress}
 use Rattle.state.specs.Checks.{Check, _refuses_, checked, unmet}
-use Rattle.state.specs.View.{View, view}
+use Rattle.state.specs.View.{View, view, storeInRange}
 use Rattle.range.specs.Range.{within, settingsFit, methodsFit, triesFit, sessionFits, windowFits, coreFits, inRange}
 use Rattle.probe_window.specs.Window.{newWindow}
 use Rattle.range.proofs.Laws.{within-is}
@@ -39,7 +39,7 @@ pub record Fitting (c : Core) : Type 0 where
 pub record Fits (g : Gate) : Type 0 where
   pub core : Fitting (g .core)
   pub paired : listInRange (g .phones .paired) ≡ true
-  pub store : listInRange (g .phones .store .phones) ≡ true
+  pub store : storeInRange (g .phones .store) ≡ true
 
 pub fits : (g : Gate) → InRange g → Fits g
 unfolding view inRange coreFits

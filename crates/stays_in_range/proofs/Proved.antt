@@ -8,7 +8,8 @@ use borrow.Author.Tests.{ltb-false}
 use lib.Dec.{ltb}
 use lib.ListN.{length, take, length-map}
 use lib.Seq.{length-take-le}
-use Rattle.arrays.proofs.Laws.{padded-take}
+use Rattle.arrays.proofs.Laws.{both, padded-take}
+use Rattle.phones.specs.Ids.{allOf}
 use Rattle.phones.specs.Phones.{idBytes, idOf}
 use Rattle.phones.proofs.Laws.{bytes-of-id}
 use Rattle.phones.proofs.Range.{id-range}
@@ -19,14 +20,15 @@ use Rattle.state.specs.declared.Gate.{Gate}
 use Rattle.state.specs.declared.Said.{Said}
 use Rattle.state.specs.Running.{noMethod, cleanMethod}
 use Rattle.state.specs.View.{view}
-use Rattle.range.specs.Range.{within, allOf, methodFits, allFit, methodsIn, methodsFit, settingsFit, sessionFits, triesFit, windowFits}
+use Rattle.range.specs.Range.{within, methodFits, allFit, methodsIn, methodsFit, settingsFit, sessionFits, triesFit, windowFits}
 use Rattle.range.proofs.Laws.{within-is}
 use Rattle.new_gate.specs.New.{newMethods, newCore, leastSettings, Made, madeCore}
 use Rattle.definition.specs.Gate.{Call, Says, saying, ofCore, served, says, left, gives, step, after, afterAll}
 use Rattle.definition.specs.Gate as Gate
 use Rattle.stays_in_range.specs.Stays.{IdsOf32, SizedMethods, Sized, AllSized, InRange, NewInRange, StaysInRange, AlwaysInRange}
 use Rattle.stays_in_range.proofs.Parts.{Fitting, Fits, fits, in-range, full-fits, Holds, cases}
-use Rattle.stays_in_range.proofs.Calls.{empty-range, fit-listing, SaidFits, fit-start, fit-submit, fit-ended, fit-approve, fit-said}
+use Rattle.stays_in_range.proofs.Cars.{empty-store, empty-list}
+use Rattle.stays_in_range.proofs.Calls.{fit-listing, SaidFits, fit-start, fit-submit, fit-ended, fit-said}
 
 -- ---- the methods of a new gate
 
@@ -44,10 +46,6 @@ unfolding allOf
 all-clean zero ms z h = refl
 all-clean (suc n) [] z h = refl
 all-clean (suc n) (m ∷ ms) z h = let p = both (methodFits m) _ h in rw (clean-fits m (z .0) (p .0)) (all-clean n ms (z .1) (p .1))
-  where
-    both : (b x : Bool) → cond b x false ≡ true → (b ≡ true) × (x ≡ true)
-    both true x e = (refl, e)
-    both false x e = absurd (false≢true e)
 
 new-methods-fit : (ms : List Method) (count : ℕ) → SizedMethods ms → methodsIn ms count ≡ true → methodsFit (newMethods ms count) ≡ true
 unfolding methodsFit newMethods methodsIn allFit
@@ -79,7 +77,7 @@ made-fits settings methods count z =
 
 pub new-in-range : NewInRange
 unfolding step gives left says
-new-in-range g settings methods count z = in-range _ (record { core = made-fits settings methods count z; paired = empty-range; store = empty-range })
+new-in-range g settings methods count z = in-range _ (record { core = made-fits settings methods count z; paired = empty-list; store = empty-store })
 
 -- ---- every call
 
@@ -102,7 +100,6 @@ module _ (g : Gate) (r : InRange g) where
   stays-in (Gate.submitValidationCode phone typed clock) z = served-in _ (fit-submit g h phone clock _ _ _ .holds)
   stays-in (Gate.onSession k) z = served-in _ (fit-ended g h _ k .holds)
   stays-in (Gate.onLists k) z = served-in _ (fit-listing g h k .holds)
-  stays-in Gate.approveCanReadWrite z = served-in _ (fit-approve g h _ .holds)
   stays-in (Gate.onCore k) z = core-in _ _ (fit-said (view g) (h .core) k z)
   stays-in (Gate.ask q) z = r
 

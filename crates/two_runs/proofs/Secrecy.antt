@@ -6,6 +6,7 @@ use Prim.Native.Nat.{ℕ}
 use Rattle.phones.specs.Ids.{Left, stays}
 use Rattle.draw.specs.Draw.{drawn}
 use Rattle.text.specs.Text.{isText}
+use Rattle.saved_record.specs.SavedRecord.{CarIds}
 use Rattle.state.specs.declared.Core.{Core}
 use Rattle.state.specs.declared.Gate.{Gate}
 use Rattle.state.specs.declared.Answer.the-variants.{BadSettings}
@@ -15,14 +16,14 @@ use Rattle.state.specs.declared.Said.{Said}
 use Rattle.state.specs.declared.Ended.{Ended}
 use Rattle.state.specs.Answers.{numbered}
 use Rattle.state.specs.Replies.{noCode, codeAt, sending, showing}
-use Rattle.state.specs.View.{Store, View, Listing, view, laidPhones}
+use Rattle.state.specs.View.{View, Listing, view, laidPhones}
 use Rattle.range.specs.Range.{inRange}
 use Rattle.validation.specs.Calls.{submit}
 use Rattle.answers.specs.Query.{Reply, plain}
 use Rattle.definition.specs.Gate.{Call, Says, saying, asked, served, ofSession, ofLists, says, fullFor, nothing, left, gives, packed, step, after}
-use Rattle.two_runs.specs.Demand.{blanked, hideGate, hideChallenge, hideSignals, seen, run, codeRuns, isRight, comesToDraw, judges, Alike, starts, submits, news, sessionCalls, listCalls, approvals, coreCalls, asks, TwoRuns, end, next, EqualButDigits, AlikeGates, StayAlike, over, place, LookAlike}
+use Rattle.two_runs.specs.Demand.{blanked, hideGate, hideChallenge, hideSignals, seen, run, codeRuns, isRight, comesToDraw, judges, Alike, starts, submits, news, sessionCalls, listCalls, coreCalls, asks, TwoRuns, end, next, EqualButDigits, AlikeGates, StayAlike, over, place, LookAlike}
 use Rattle.two_runs.proofs.Digits.{blanked-drawn}
-use Rattle.two_runs.proofs.Turns.{Shown, Marked, Fit, tries-fit, turn-core, turn-approve, turn-session}
+use Rattle.two_runs.proofs.Turns.{Shown, Marked, Fit, tries-fit, turn-core, turn-session}
 use Rattle.two_runs.proofs.Sessions.{started, submitted-as, passes, start-by, submit-by}
 use Rattle.two_runs.proofs.Queries.{recoded, SameReply, answer-as}
 
@@ -88,7 +89,7 @@ module _ (g : Gate) (other : List ℕ) (e : blanked (g .core .settings .digits) 
     unmarked c Kept f held r = held (sym f ∙ r)
     unmarked c Fresh f held r = absurd (true≢false (sym f ∙ r))
 
-    twin-said : (o o′ : Said) → Fit (g .core) o → o ≡ o′ → (b : Bool) (x : Left Store) → Twin g other (saying here drew o b x) (saying there drew′ o′ b x)
+    twin-said : (o o′ : Said) → Fit (g .core) o → o ≡ o′ → (b : Bool) (x : Left (List CarIds)) → Twin g other (saying here drew o b x) (saying there drew′ o′ b x)
     unfolding saying seen gives left hideGate hideSignals hideChallenge view
     twin-said o o′ f p b x =
         let c : blanked (o .core .settings .digits) (codeAt (g .code) drew (o .code)) ≡ blanked (o .core .settings .digits) (codeAt other drew′ (o .code)) = rw (f .settings) (placed (o .code)) in
@@ -124,7 +125,6 @@ module _ (g : Gate) (other : List ℕ) (e : blanked (g .core .settings .digits) 
   twin (news settings methods count) = record { look = refl; stay = λ held r. refl }
   twin (sessionCalls k) = twin-served _ _ (λ f. twin-ended _ _ (turn-session (g .core) _ k .fit) refl)
   twin (listCalls k) = twin-served _ _ (λ f. twin-lists _)
-  twin approvals = twin-served _ _ (λ f. twin-said noCode noCode refl _ _ (turn-approve (g .core) _ .fit) refl _ _)
   twin (coreCalls k) = twin-served _ _ (λ f. twin-said noCode noCode refl _ _ (turn-core (g .core) _ k .fit) refl false stays)
   twin (asks q) = twin-asked _ _ (answer-as here other e q)
 

@@ -25,7 +25,7 @@ use Rattle.definition.specs.Gate.{Call, Says, isLent, fullFor, saying, asked, s
 use Rattle.footprint.proofs.Keeps.{either}
 use Rattle.two_runs.specs.Demand.{codeRuns, isRight, numberOf, judgedWrong, begins, Within, parts, sessions, Every, nil, both}
 use Rattle.two_runs.specs.Refills.{sessionRefills, submitRefills, refills, Refilled}
-use Rattle.two_runs.proofs.Turns.{triesLeft, tries-fit, turn-core, turn-approve, turn-session}
+use Rattle.two_runs.proofs.Turns.{triesLeft, tries-fit, turn-core, turn-session}
 use Rattle.two_runs.proofs.Sessions.{started, submitted-as}
 
 none-more : (x y : ℕ) → x ≤ y → 0 + x ≤ y
@@ -107,7 +107,6 @@ start-last g (Gate.startValidation phone method clock random) e = zero-le
 start-last g (Gate.submitValidationCode phone typed clock) e = absurd (false≢true e)
 start-last g (Gate.onSession k) e = zero-le
 start-last g (Gate.onLists k) e = zero-le
-start-last g Gate.approveCanReadWrite e = zero-le
 start-last g (Gate.onCore k) e = zero-le
 start-last g (Gate.ask q) e = zero-le
 
@@ -127,7 +126,6 @@ session-takes g (Gate.submitValidationCode phone typed clock) e =
     (λ f. submitted-as (g .core) (tries-fit (view g) f .0) clock phone (isText typed) (isRight g typed) (fullFor (view g)) .paid)
 session-takes g (Gate.onSession k) e = at-gate triesLeft g _ (λ n. 0) refl (λ f. turn-session (g .core) _ k .paid)
 session-takes g (Gate.onLists k) e = at-gate triesLeft g _ (λ n. 0) refl (λ f. none-more _ _ (le-refl _))
-session-takes g Gate.approveCanReadWrite e = at-gate triesLeft g _ (λ n. 0) refl (λ f. turn-approve (g .core) _ .paid)
 session-takes g (Gate.onCore k) e = at-gate triesLeft g _ (λ n. 0) refl (λ f. turn-core (g .core) _ k .paid)
 session-takes g (Gate.ask q) e = none-more _ _ (le-refl _)
 
@@ -163,7 +161,6 @@ refill-last g (Gate.startValidation phone method clock random) e = zero-le
 refill-last g (Gate.submitValidationCode phone typed clock) e = one-judged g _
 refill-last g (Gate.onSession k) e = zero-le
 refill-last g (Gate.onLists k) e = zero-le
-refill-last g Gate.approveCanReadWrite e = zero-le
 refill-last g (Gate.onCore k) e = zero-le
 refill-last g (Gate.ask q) e = zero-le
 
@@ -182,7 +179,6 @@ gate-takes g (Gate.onSession k) e =
     at-gate gateTries g _ (λ n. 0) refl
     (λ f. turn-session (g .core) _ k .kept (sym (ap (λ (s : Says). sessionRefills k (numberedReply (laidReply (s .answer)) .values)) (served-in (view g) _ f)) ∙ e))
 gate-takes g (Gate.onLists k) e = at-gate gateTries g _ (λ n. 0) refl (λ f. none-more _ _ (le-refl _))
-gate-takes g Gate.approveCanReadWrite e = at-gate gateTries g _ (λ n. 0) refl (λ f. turn-approve (g .core) _ .kept refl)
 gate-takes g (Gate.onCore k) e = at-gate gateTries g _ (λ n. 0) refl (λ f. turn-core (g .core) _ k .kept refl)
 gate-takes g (Gate.ask q) e = none-more _ _ (le-refl _)
 

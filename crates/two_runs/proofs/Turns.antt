@@ -5,7 +5,6 @@ use mathlib.Core.Bool.{Bool, true, false, cond, true≢false, and-false, and-eq-
 use Prim.Native.Nat.{ℕ, _+_, _≤_, zero-le}
 use native.Mathlib.Omega.{arith}
 use lib.Dec.{ltb}
-use Rattle.phones.specs.Ids.{someOf}
 use Rattle.state.specs.declared.Status.{Status}
 use Rattle.state.specs.declared.Status.the-variants.{Cancelled, TimedOut}
 use Rattle.state.specs.declared.Methods.{Methods}
@@ -24,7 +23,6 @@ use Rattle.state.specs.Replies.{nothingRaised, phoneAccessChanged, leave, reply
 use Rattle.state.specs.View.{Lists, View}
 use Rattle.range.proofs.Laws.{within-is}
 use Rattle.range.specs.Range.{coreFits, triesFit, inRange}
-use Rattle.can_access.specs.Approval.{approve}
 use Rattle.session.specs.declared.Lapse.{Lapse}
 use Rattle.session.specs.declared.Lapse.the-variants.{Stays, Ends}
 use Rattle.session.specs.Session.{endedAs, lapseOf, cannotGoOn}
@@ -32,8 +30,7 @@ use Rattle.validation.specs.Calls.{endSession, tickedAs, tick, ticking, refille
 use Rattle.definition.specs.Gate as Gate
 use Rattle.definition.specs.Gate.{SessionCall, CoreCall, ended, said}
 use Rattle.footprint.proofs.Keeps.{either, each-check}
-use Rattle.footprint.proofs.Core.{Beside, beside, core-beside}
-use Rattle.footprint.proofs.Sessions.{approve-keeps}
+use Rattle.footprint.proofs.Core.{Beside, core-beside}
 use Rattle.two_runs.specs.Demand.{codeRuns}
 use Rattle.two_runs.specs.Refills.{sessionRefills}
 
@@ -89,10 +86,6 @@ turn-beside c o b =
 
 pub turn-core : (c : Core) (l : Lists) (k : CoreCall) → Turn c 0 false (said c l k)
 turn-core c l k = turn-beside c (said c l k) (core-beside c l k)
-
-pub turn-approve : (c : Core) (other : Bool) → Turn c 0 false (approve c other .said)
-unfolding someOf
-turn-approve c other = turn-beside c _ (beside _ c _ (approve-keeps c other) refl refl refl refl)
 
 turn-reply : {f : Bool} (c : Core) (a : Answer) (r : Raised) → Turn c 0 f (reply c a r)
 unfolding reply

@@ -20,7 +20,7 @@ use Rattle.text.specs.Text.{isText, right}
 use Rattle.validation.specs.Calls.{draws, tick}
 use Rattle.answers.specs.Query as Query
 use Rattle.answers.specs.Query.{Query, Reply, numberedReply}
-use Rattle.definition.specs.Gate.{SessionCall, ListCall, CoreCall, Call, newGateCall, startValidation, submitValidationCode, onSession, onLists, approveCanReadWrite, onCore, ask, Given, isLent, step, after}
+use Rattle.definition.specs.Gate.{SessionCall, ListCall, CoreCall, Call, newGateCall, startValidation, submitValidationCode, onSession, onLists, onCore, ask, Given, isLent, step, after}
 
 -- ---- what is left out: the digits, and not their number
 
@@ -105,7 +105,6 @@ pub data Alike (g h : Gate) : Call → Call → Type 0 where
   news : (settings : Settings) (methods : List Method) (count : ℕ) → Alike g h (newGateCall settings methods count) (newGateCall settings methods count)
   sessionCalls : (k : SessionCall) → Alike g h (onSession k) (onSession k)
   listCalls : (k : ListCall) → Alike g h (onLists k) (onLists k)
-  approvals : Alike g h approveCanReadWrite approveCanReadWrite
   coreCalls : (k : CoreCall) → Alike g h (onCore k) (onCore k)
   asks : (q : Query) → Alike g h (ask q) (ask q)
 
@@ -127,7 +126,6 @@ judgedWrong (startValidation phone method clock random) a = 0
 judgedWrong (submitValidationCode phone typed clock) a = cond (eqb (numberOf a) 10) 1 0
 judgedWrong (onSession k) a = 0
 judgedWrong (onLists k) a = 0
-judgedWrong approveCanReadWrite a = 0
 judgedWrong (onCore k) a = 0
 judgedWrong (ask q) a = 0
 
@@ -138,7 +136,6 @@ begins (startValidation phone method clock random) a = eqb (numberOf a) 0
 begins (submitValidationCode phone typed clock) a = false
 begins (onSession k) a = false
 begins (onLists k) a = false
-begins approveCanReadWrite a = false
 begins (onCore k) a = false
 begins (ask q) a = false
 

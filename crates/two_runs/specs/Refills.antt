@@ -10,7 +10,7 @@ use Rattle.state.specs.declared.Status.the-variants.{InProgress, Succeeded, Fai
 use Rattle.state.specs.declared.Gate.{Gate}
 use Rattle.state.specs.Answers.{Values, noValue, done, yes, no, none, count, platform, reason, seconds, session}
 use Rattle.answers.specs.Query.{Reply, numberedReply}
-use Rattle.definition.specs.Gate.{SessionCall, cancelValidation, completeValidationAction, tickValidation, Call, newGateCall, startValidation, submitValidationCode, onSession, onLists, approveCanReadWrite, onCore, ask}
+use Rattle.definition.specs.Gate.{SessionCall, cancelValidation, completeValidationAction, tickValidation, Call, newGateCall, startValidation, submitValidationCode, onSession, onLists, onCore, ask}
 use Rattle.two_runs.specs.Demand.{numberOf, Tally, Within, Every, parts}
 
 -- ---- the calls that refill: New gate, and a session's end as Succeeded or as Failed
@@ -63,7 +63,6 @@ refills (startValidation phone method clock random) a = false
 refills (submitValidationCode phone typed clock) a = submitRefills (numberOf a) (numberedReply a .values)
 refills (onSession k) a = sessionRefills k (numberedReply a .values)
 refills (onLists k) a = false
-refills approveCanReadWrite a = false
 refills (onCore k) a = false
 refills (ask q) a = false
 

@@ -1,23 +1,43 @@
 -- What private functions of the code give.
 use mathlib.Core.Path.{_≡_}
-use mathlib.Core.List.{List}
-use Prim.Native.Nat.{ℕ}
+use mathlib.Core.Bool.{cond}
+use mathlib.Core.List.{List, [], _∷_, _++_}
+use Prim.Native.Nat.{ℕ, zero, suc}
+use Rattle.arrays.specs.Arrays.{sameBytes}
 use Rattle.phones.specs.declared.PhoneList.{PhoneList}
 use Rattle.phones.specs.Phones.{listOf}
+use Rattle.saved_record.specs.declared.CarPhones.{CarPhones}
+use Rattle.saved_record.specs.declared.Store.{Store}
 use Rattle.saved_record.specs.declared.RecordVerdict.{RecordVerdict}
 use Rattle.saved_record.specs.declared.RecordVerdict.the-variants as Verdict
+use Rattle.saved_record.specs.SavedRecord.{CarIds}
+use Rattle.saved_record.specs.Store.{laidCar, carsOf, storeOf}
 use Rattle.state.specs.declared.Answer.{Answer}
-use Rattle.state.specs.declared.Answer.the-variants.{Done, Malformed, TooLarge}
-use Rattle.state.specs.declared.Validations.{Validations}
-use Rattle.state.specs.View.{validationsOf}
-use Rattle.validations.specs.Store.{storeOf}
+use Rattle.state.specs.declared.Answer.the-variants.{Done, Malformed, CarTwice, TooLarge}
+use Rattle.validations.specs.Store.{withPhones}
 
--- the store of what is left of a car's list, whatever ids the canonical list holds
-abbrev pub StoreOf : List ℕ → PhoneList → Validations → Type 0
-StoreOf car l v = (ps : List (List ℕ)) → l ≡ listOf ps → v ≡ validationsOf (storeOf car ps)
+-- the place of the first car with this digest; the number of cars if there is none
+unfoldable pub placeOf : List ℕ → List CarIds → ℕ
+placeOf car [] = 0
+placeOf car (c ∷ cs) = cond (sameBytes (c .car) car) 0 (suc (placeOf car cs))
+
+-- the car at a place has these phones now
+unfoldable pub hasAt : ℕ → List (List ℕ) → List CarIds → List CarIds
+hasAt at ps [] = []
+hasAt zero ps (c ∷ cs) = withPhones c ps ∷ cs
+hasAt (suc at) ps (c ∷ cs) = c ∷ hasAt at ps cs
+
+-- whatever ids the canonical list holds
+abbrev pub PhonesPut : Store → ℕ → PhoneList → Store → Type 0
+PhonesPut s at l r = (ps : List (List ℕ)) → l ≡ listOf ps → r ≡ storeOf (hasAt at ps (carsOf s))
+
+-- whatever cars the canonical store holds, and whatever the canonical car
+abbrev pub LastPut : Store → CarPhones → Store → Type 0
+LastPut s l r = (cs : List CarIds) (c : CarIds) → s ≡ storeOf cs → l ≡ laidCar c → r ≡ storeOf (cs ++ (c ∷ []))
 
 -- the answer to a record's verdict
 abbrev pub restoreAnswer : RecordVerdict → Answer
 restoreAnswer Verdict.Restored = Done
 restoreAnswer Verdict.Malformed = Malformed
+restoreAnswer Verdict.CarTwice = CarTwice
 restoreAnswer Verdict.TooLarge = TooLarge

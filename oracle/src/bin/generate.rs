@@ -1,19 +1,18 @@
-//! Writes a random script for the settings that the source was compiled with. Its last line, a comment, says how many
-//! openings of a probe window were left out.
+//! Writes a random script for the settings that the source was compiled with. A comment at its end says how many openings
+//! of a probe window were left out, and with --one-car another how many successes, approvals and records.
 
-use oracle::generate::{Options, script};
+use oracle::generate::{OneCar, Options, script};
 use std::io::{self, BufWriter, Write};
 use std::process::ExitCode;
 
-const USAGE: &str = "usage: generate --seed S --calls N [--settings digits,tries,session,cooldown,keep] [--no-counters] [--states] [--texts]";
+const USAGE: &str = "usage: generate --seed S --calls N [--settings digits,tries,session,cooldown,keep] [--no-counters] [--states] [--texts] [--one-car]";
 
 fn main() -> ExitCode {
     let mut seed = 1;
     let mut calls = 1000;
     let mut options = Options {
         counters: true,
-        states: false,
-        texts: false,
+        ..Options::default()
     };
     let mut arguments = std::env::args().skip(1);
     while let Some(argument) = arguments.next() {
@@ -40,6 +39,10 @@ fn main() -> ExitCode {
                 options.texts = true;
                 true
             }
+            "--one-car" => {
+                options.one_car = true;
+                true
+            }
             _ => false,
         };
         if !understood {
@@ -49,11 +52,14 @@ fn main() -> ExitCode {
     }
     let mut out = BufWriter::new(io::stdout().lock());
     let made = script(seed, calls, options);
-    let last = format!(
+    let mut last = vec![format!(
         "# W-201: {} of {} openings left out",
         made.left_out, made.openings
-    );
-    for line in made.lines.iter().chain([&last]) {
+    )];
+    if options.one_car {
+        last.push(one_car(&made.one_car));
+    }
+    for line in made.lines.iter().chain(&last) {
         if writeln!(out, "{line}").is_err() {
             return ExitCode::FAILURE;
         }
@@ -62,6 +68,18 @@ fn main() -> ExitCode {
         Ok(()) => ExitCode::SUCCESS,
         Err(_) => ExitCode::FAILURE,
     }
+}
+
+fn one_car(of: &OneCar) -> String {
+    format!(
+        "# W-207: {} of {} successes, {} of {} approvals, {} of {} records left out",
+        of.successes.left_out,
+        of.successes.chosen,
+        of.approvals.left_out,
+        of.approvals.chosen,
+        of.records.left_out,
+        of.records.chosen
+    )
 }
 
 fn set<T: std::str::FromStr>(place: &mut T, value: Option<String>) -> bool {

@@ -6,14 +6,13 @@ use std::io::{self, BufWriter};
 use std::process::ExitCode;
 
 fn main() -> ExitCode {
-    let mut options = Options {
-        states: false,
-        wrong: None,
-    };
+    let mut options = Options::default();
     let mut arguments = std::env::args().skip(1);
     while let Some(argument) = arguments.next() {
         match argument.as_str() {
             "--state" => options.states = true,
+            "--bare" => options.bare = true,
+            "--cars" => options.cars = true,
             "--wrong" => match arguments.next().and_then(|name| wrong::by_name(&name)) {
                 Some(wrong) => options.wrong = Some(wrong),
                 None => {
@@ -23,7 +22,7 @@ fn main() -> ExitCode {
                 }
             },
             _ => {
-                eprintln!("usage: oracle [--state] [--wrong NAME] < script");
+                eprintln!("usage: oracle [--state] [--bare | --cars] [--wrong NAME] < script");
                 return ExitCode::from(2);
             }
         }

@@ -48,10 +48,7 @@ fn differ(lines: &[&str], other: &str) -> bool {
     let mut script = lines.join("\n");
     script.push('\n');
     let mut right = Vec::new();
-    let options = Options {
-        states: false,
-        wrong: None,
-    };
+    let options = Options::default();
     // A script that the oracle does not support shows no difference.
     if replay(script.as_bytes(), &mut right, &options).is_err() {
         return false;

@@ -56,8 +56,7 @@ impl Run {
     fn new(seed: u64) -> Self {
         let options = Options {
             counters: true,
-            states: false,
-            texts: false,
+            ..Options::default()
         };
         let lines = script(seed, CALLS_OF_A_SCRIPT, options).lines;
         let calls: Vec<Call> = lines

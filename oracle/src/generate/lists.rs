@@ -4,7 +4,7 @@ use super::Generator;
 use super::pools::filler;
 use crate::calls::Call;
 use crate::items::MethodKind;
-use core_interface::oracle::{can_access, pairing, phone_trust};
+use core_interface::oracle::pairing;
 
 impl Generator {
     /// A list of 31 or 32 phones for the car, and sessions of phones that it holds or not.
@@ -16,12 +16,12 @@ impl Generator {
             });
         }
         let count = self.random.pick(&[32, 32, 32, 31]);
-        let mut record = self.full_record(count);
+        let mut phones: Vec<_> = (0..count).map(filler).collect();
         if self.random.chance(1, 4) {
             // One id twice: places are counted, not phones.
-            let at = record.len() - 1;
-            record[at] = 0;
+            phones[usize::from(count) - 1] = filler(0);
         }
+        let record = self.record_with(phones);
         self.emit(Call::Restore { record });
         if self.random.chance(1, 6) {
             // The full list is now another car's.
@@ -48,18 +48,13 @@ impl Generator {
         if core_interface::is_can_read_only() && self.random.chance(4, 5) {
             self.make_ready();
         }
-        if let Some(car) = can_access::car()
-            && self.random.flip()
-        {
+        if core_interface::is_car_fingerprint_confirmed() && self.random.flip() {
             let phone = self.short_phone();
             self.emit(Call::Pair {
                 phone: phone.clone(),
             });
             if !phone.is_empty() {
-                let mut record = vec![1];
-                record.extend(car);
-                record.extend([1, phone.len() as u8]);
-                record.extend(&phone);
+                let record = self.record_with(vec![phone]);
                 self.emit(Call::Restore { record });
             }
         }
@@ -105,7 +100,7 @@ impl Generator {
         for _ in 0..1 + self.random.below(4) {
             let record = self.record();
             self.emit(Call::Restore { record });
-            if phone_trust::validated_count() > 0 && self.random.flip() {
+            if !self.gate.shelf.0.is_empty() && self.random.flip() {
                 self.emit(Call::Encode {});
                 let phone = self.phone();
                 let change = self.random.pick(&[

@@ -1,6 +1,7 @@
 //! Random scripts. Each call is run on the compiled source as it is written, so that the next can be chosen by the real
 //! state: the running code, the session's number, the moments at which something lapses.
 
+mod cars;
 mod clock;
 mod codes;
 mod guesses;
@@ -18,6 +19,8 @@ use crate::answer::Reply;
 use crate::calls::Call;
 use crate::gate::Gate;
 use crate::items::Several;
+pub use cars::OneCar;
+use core_interface::CarDigest;
 use random::Random;
 
 /// How many calls a gate is used for, before the next `new`.
@@ -35,18 +38,23 @@ pub struct Generator {
     probe: Vec<crate::items::ProbeFrame>,
     openings: usize,
     left_out: usize,
+    /// The digests of the cars that were identified last.
+    seen: Vec<CarDigest>,
+    one_car: OneCar,
 }
 
 /// The lines of a script, how many openings of a probe window were chosen for it, and how many of these were left out
-/// since the source's rule for an awake bus is not that of W-201 at their moment.
+/// since the source's rule for an awake bus is not that of W-201 at their moment. `one_car` counts what was left out of a
+/// script of one car.
 pub struct Script {
     pub lines: Vec<String>,
     pub openings: usize,
     pub left_out: usize,
+    pub one_car: OneCar,
 }
 
-/// What a script may hold besides calls.
-#[derive(Clone, Copy)]
+/// What a script may hold.
+#[derive(Clone, Copy, Default)]
 pub struct Options {
     /// `set_counters` lines.
     pub counters: bool,
@@ -54,6 +62,8 @@ pub struct Options {
     pub states: bool,
     /// Some values as text. The calls are the same as without.
     pub texts: bool,
+    /// Never two cars in the store, so that the source can be run without a shelf.
+    pub one_car: bool,
 }
 
 /// A script of `calls` calls; the same seed gives the same script.
@@ -69,6 +79,8 @@ pub fn script(seed: u64, calls: usize, options: Options) -> Script {
         probe: Vec::new(),
         openings: 0,
         left_out: 0,
+        seen: Vec::new(),
+        one_car: OneCar::default(),
     };
     while !generator.is_full() {
         generator.one_gate();
@@ -82,6 +94,7 @@ pub fn script(seed: u64, calls: usize, options: Options) -> Script {
         lines,
         openings: generator.openings,
         left_out: generator.left_out,
+        one_car: generator.one_car,
     }
 }
 
@@ -121,9 +134,16 @@ impl Generator {
         if self.is_full() || self.leaves_out(&call) {
             return None;
         }
+        if self.options.one_car && self.leaves_out_car(&call) {
+            if !matches!(call, Call::Restore { .. }) {
+                self.emit(Call::ClearPaired {});
+            }
+            return None;
+        }
         self.lines.push(call.to_string());
         self.calls += 1;
         let reply = self.gate.perform(&call);
+        self.remember_car();
         if self.random.chance(1, 10) || self.options.states {
             self.lines.push(Call::State {}.to_string());
         }

@@ -3,7 +3,7 @@
 use super::Generator;
 use crate::calls::Call;
 use crate::items::{Bytes, IdKind, IdNumber, Method, MethodKind, ProbeFrame};
-use core_interface::oracle::{pairing, phone_trust, validation};
+use core_interface::oracle::{can_access, pairing, validation};
 
 /// An id of 32 bytes.
 const LONGEST: [u8; 32] = *b"0123456789abcdefghijklmnopqrstuv";
@@ -30,10 +30,7 @@ impl Generator {
             4 => vec![0xA1, 0],
             5 => filler(self.random.below(4) as u8),
             6 | 7 => self.known_phone(pairing::paired()),
-            8 | 9 => {
-                let validated = phone_trust::validations().map_or(Vec::new(), |v| v.1);
-                self.known_phone(validated)
-            }
+            8 | 9 => self.listed_phone(),
             10..=13 => match validation::session() {
                 Some(session) => session.phone,
                 None => vec![0xA1],
@@ -54,7 +51,7 @@ impl Generator {
         }
     }
 
-    fn known_phone(&mut self, from: Vec<Bytes>) -> Bytes {
+    pub(super) fn known_phone(&mut self, from: Vec<Bytes>) -> Bytes {
         if from.is_empty() {
             vec![0xA1]
         } else {
@@ -134,9 +131,11 @@ impl Generator {
 
     /// Bytes that identify a car: a few cars, lengths around the ends of a SHA-256 block, and lengths that are refused.
     pub(super) fn fingerprint(&mut self) -> Bytes {
+        if self.options.one_car && self.random.chance(9, 10) {
+            return self.one_car_of_seven();
+        }
         match self.random.below(60) {
-            0..=29 => b"VIN1".to_vec(),
-            30..=44 => b"VIN2".to_vec(),
+            0..=44 => self.one_car_of_seven(),
             45..=47 => Vec::new(),
             48 => vec![0x5A; 4_096],
             49 => vec![0x5A; 4_097],
@@ -200,14 +199,22 @@ impl Generator {
 
     /// A car that was seen, or another.
     pub(super) fn car(&mut self) -> [u8; 32] {
-        let seen = [
-            core_interface::oracle::can_access::car(),
-            core_interface::oracle::can_access::approval(),
-            phone_trust::validations().map(|v| v.0),
-            Some([0x11; 32]),
-        ];
-        let seen: Vec<[u8; 32]> = seen.into_iter().flatten().collect();
-        self.random.pick(&seen)
+        if let Some(car) = can_access::car()
+            && self.options.one_car
+            && self.random.chance(9, 10)
+        {
+            return car;
+        }
+        let known = [can_access::car(), can_access::approval(), Some([0x11; 32])];
+        let known: Vec<[u8; 32]> = known.into_iter().flatten().collect();
+        let listed = self.gate.shelf.0.iter().map(|listed| listed.0);
+        let seen = listed.chain(self.seen.iter().copied());
+        let seen: Vec<[u8; 32]> = seen.collect();
+        if seen.is_empty() || self.options.one_car || self.random.flip() {
+            self.random.pick(&known)
+        } else {
+            self.random.pick(&seen)
+        }
     }
 
     pub(super) fn place(&mut self) -> u32 {

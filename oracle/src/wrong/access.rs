@@ -4,14 +4,9 @@ use super::{Wrong, run, wrong};
 use crate::answer::{Answer, Reply};
 use crate::calls::Call;
 use crate::gate::Gate;
-use core_interface::oracle::{can, can_access, can_probe, phone_trust};
+use core_interface::oracle::{can, can_access, can_probe};
 
 pub const RULES: &[Wrong] = &[
-    wrong(
-        "approval-keeps-other-car",
-        "approving a car keeps the validations of another",
-        approval_keeps_other_car,
-    ),
     wrong(
         "relock-not-counted",
         "set read-only counts no relock",
@@ -73,17 +68,6 @@ pub const RULES: &[Wrong] = &[
         revoke_keeps_flag,
     ),
 ];
-
-fn approval_keeps_other_car(gate: &mut Gate, call: &Call) -> Reply {
-    let before = phone_trust::validations();
-    let mut reply = run(gate, call);
-    if matches!(call, Call::Approve {}) && reply.answer == Answer::Ok {
-        phone_trust::set_validations(before);
-        reply.signals.validations = None;
-        reply.signals.availability = false;
-    }
-    reply
-}
 
 fn relock_not_counted(gate: &mut Gate, call: &Call) -> Reply {
     let relocks = can_probe::relocks();

@@ -2,9 +2,11 @@
 //! that it would notice them. None of this is used unless a wrong rule is asked for.
 
 mod access;
+mod cars;
 mod drawing;
 mod phones;
 mod probe;
+mod records;
 mod sessions;
 mod tries;
 mod typed;
@@ -51,6 +53,8 @@ pub fn all() -> Vec<Wrong> {
         tries::RULES,
         drawing::RULES,
         phones::RULES,
+        cars::RULES,
+        records::RULES,
         probe::RULES,
         access::RULES,
     ]
@@ -102,15 +106,16 @@ pub fn perform(gate: &mut Gate, call: &Call, wrong: Option<Wrong>) -> Reply {
 }
 
 /// The reply of a call that was run, with what it sent so far.
-fn reply((answer, values): Outcome) -> Reply {
+fn reply(gate: &Gate, (answer, values): Outcome) -> Reply {
     Reply {
         answer,
         values,
-        signals: Signals::take(),
+        signals: gate.take_signals(),
     }
 }
 
 /// Runs the call as it should be, after what a wrong rule did before it.
 fn run(gate: &mut Gate, call: &Call) -> Reply {
-    reply(gate.run(call))
+    let outcome = gate.run(call);
+    reply(gate, outcome)
 }

@@ -1,7 +1,7 @@
-//! Wrong rules about pairings, validated phones and the saved record.
+//! Wrong rules about pairings and validated phones.
 
 use super::{Wrong, reply, run, wrong};
-use crate::answer::{Answer, Refusal, Reply};
+use crate::answer::{Answer, Reply};
 use crate::calls::Call;
 use crate::gate::Gate;
 use crate::items::{Bytes, Class};
@@ -40,26 +40,6 @@ pub const RULES: &[Wrong] = &[
         clear_keeps_validations,
     ),
     wrong(
-        "restore-keeps",
-        "a refused restore keeps the store",
-        restore_keeps,
-    ),
-    wrong(
-        "restore-large-first",
-        "a record that is too large and malformed gives 23",
-        restore_large_first,
-    ),
-    wrong(
-        "version-ignored",
-        "a record's version is not looked at",
-        version_ignored,
-    ),
-    wrong(
-        "empty-record-restores",
-        "a record of no bytes restores an empty store",
-        empty_record_restores,
-    ),
-    wrong(
         "unpaired-validated",
         "a validated phone need not be paired",
         unpaired_validated,
@@ -79,11 +59,6 @@ pub const RULES: &[Wrong] = &[
         "at the limit a phone that is paired gets no",
         pair_limit_first,
     ),
-    wrong(
-        "restore-drops-repeats",
-        "a restored record loses its repeats",
-        restore_drops_repeats,
-    ),
 ];
 
 fn pair_empty(gate: &mut Gate, call: &Call) -> Reply {
@@ -98,7 +73,7 @@ fn pair_empty(gate: &mut Gate, call: &Call) -> Reply {
             pairing::set_paired(paired);
         }
         phone_trust::notify_phone_access_changed();
-        return reply((added.into(), Default::default()));
+        return reply(gate, (added.into(), Default::default()));
     }
     run(gate, call)
 }
@@ -140,84 +115,45 @@ fn long_id_cut(gate: &mut Gate, call: &Call) -> Reply {
 }
 
 fn unpair_needs_pairing(gate: &mut Gate, call: &Call) -> Reply {
-    let before = phone_trust::validations();
+    let before = gate.shelf.clone();
     let mut reply = run(gate, call);
     if matches!(call, Call::Unpair { .. }) && reply.answer == Answer::No {
-        phone_trust::set_validations(before);
+        gate.shelf = before;
         reply.signals = Default::default();
     }
     reply
 }
 
 fn forget_first_only(gate: &mut Gate, call: &Call) -> Reply {
-    let before = phone_trust::validations();
+    let mut before = gate.shelf.clone();
     let mut reply = run(gate, call);
     if let Call::Forget { phone } | Call::Unpair { phone } = call
-        && let Some((car, mut phones)) = before
-        && let Some(first) = phones.iter().position(|id| id == phone)
+        && reply.signals.validations.is_some()
     {
-        phones.remove(first);
-        let rest = (!phones.is_empty()).then_some((car, phones));
-        phone_trust::set_validations(rest);
-        reply.signals.validations = Some(core_interface::encode_phone_validations());
+        for (_, phones) in &mut before.0 {
+            if let Some(first) = phones.iter().position(|id| id == phone) {
+                phones.remove(first);
+            }
+        }
+        before.0.retain(|(_, phones)| !phones.is_empty());
+        gate.shelf = before;
+        reply.signals.validations = Some(gate.shelf.record());
     }
     reply
 }
 
 fn clear_keeps_validations(gate: &mut Gate, call: &Call) -> Reply {
-    let before = phone_trust::validations();
+    let before = gate.shelf.clone();
     let mut reply = run(gate, call);
     if let Call::ClearPaired {} = call {
-        phone_trust::set_validations(before);
+        gate.shelf = before;
         reply.signals = Default::default();
     }
     reply
 }
 
-fn restore_keeps(gate: &mut Gate, call: &Call) -> Reply {
-    let before = phone_trust::validations();
-    let reply = run(gate, call);
-    if matches!(call, Call::Restore { .. }) && reply.answer != Answer::Ok {
-        phone_trust::set_validations(before);
-    }
-    reply
-}
-
-fn restore_large_first(gate: &mut Gate, call: &Call) -> Reply {
-    let mut reply = run(gate, call);
-    if let Call::Restore { record } = call
-        && reply.answer == Answer::Refused(Refusal::Malformed)
-        && record.len() > 34
-        && record[0] == 1
-        && (record[33] > 32 || record[34] > 32)
-    {
-        reply.answer = Answer::Refused(Refusal::TooLarge);
-    }
-    reply
-}
-
-fn version_ignored(gate: &mut Gate, call: &Call) -> Reply {
-    let mut changed = call.clone();
-    if let Call::Restore { record } = &mut changed
-        && let Some(version) = record.first_mut()
-    {
-        *version = 1;
-    }
-    run(gate, &changed)
-}
-
-fn empty_record_restores(gate: &mut Gate, call: &Call) -> Reply {
-    let mut reply = run(gate, call);
-    if let Call::Restore { record } = call
-        && record.is_empty()
-    {
-        reply.answer = Answer::Ok;
-    }
-    reply
-}
-
 /// The phone whose validation a call asks for.
-fn asked(call: &Call) -> Option<&Bytes> {
+pub fn asked(call: &Call) -> Option<&Bytes> {
     match call {
         Call::IsValidated { phone } => Some(phone),
         Call::Allow {
@@ -261,16 +197,14 @@ fn empty_validated(gate: &mut Gate, call: &Call) -> Reply {
     {
         *phone = NAME.to_vec();
     }
-    let before = phone_trust::validations();
-    let renamed = before.clone().map(|(car, mut phones)| {
+    let before = gate.shelf.clone();
+    for (_, phones) in &mut gate.shelf.0 {
         for phone in phones.iter_mut().filter(|phone| phone.is_empty()) {
             *phone = NAME.to_vec();
         }
-        (car, phones)
-    });
-    phone_trust::set_validations(renamed);
+    }
     let reply = as_paired(gate, &named, &NAME.to_vec());
-    phone_trust::set_validations(before);
+    gate.shelf = before;
     reply
 }
 
@@ -289,22 +223,6 @@ fn pair_limit_first(gate: &mut Gate, call: &Call) -> Reply {
     let mut reply = run(gate, call);
     if matches!(call, Call::Pair { .. }) && at_limit && reply.answer == Answer::Yes {
         reply.answer = Answer::No;
-    }
-    reply
-}
-
-fn restore_drops_repeats(gate: &mut Gate, call: &Call) -> Reply {
-    let reply = run(gate, call);
-    if let Call::Restore { .. } = call
-        && let Some((car, phones)) = phone_trust::validations()
-    {
-        let mut kept: Vec<Bytes> = Vec::new();
-        for phone in phones {
-            if !kept.contains(&phone) {
-                kept.push(phone);
-            }
-        }
-        phone_trust::set_validations(Some((car, kept)));
     }
     reply
 }

@@ -203,7 +203,7 @@ fn mark_greatest(gate: &mut Gate, call: &Call) -> Reply {
     if let Call::Heard { bus, now } = call
         && gate.marks.of(*bus).is_some_and(|mark| mark > *now)
     {
-        return reply(plain(Answer::Ok));
+        return reply(gate, plain(Answer::Ok));
     }
     run(gate, call)
 }

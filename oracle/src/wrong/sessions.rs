@@ -288,10 +288,11 @@ fn available_ignored(gate: &mut Gate, call: &Call) -> Reply {
 fn cancel_ticks(gate: &mut Gate, call: &Call) -> Reply {
     if let Call::Cancel { phone, now } = call {
         core_interface::tick_validation(*now);
-        return reply(match validation::cancel_validation(phone, *now) {
+        let outcome = match validation::cancel_validation(phone, *now) {
             Ok(()) => plain(Answer::Ok),
             Err(error) => refused(error),
-        });
+        };
+        return reply(gate, outcome);
     }
     run(gate, call)
 }

@@ -1,11 +1,12 @@
 //! Wrong rules about what a typed code leads to: tries, cooldown, full lists.
 
 use super::{Wrong, reply, run, wrong};
-use crate::added::is_running;
+use crate::added::{MAX_PHONES, is_running};
 use crate::answer::{Answer, Refusal, Reply};
 use crate::calls::Call;
 use crate::gate::{Gate, refused};
 use crate::items::MethodKind;
+use crate::shelf::Shelf;
 use core_interface::MAX_CODE_ATTEMPTS;
 use core_interface::oracle::validation::SessionView;
 use core_interface::oracle::{phone_trust, validation};
@@ -81,6 +82,16 @@ pub const RULES: &[Wrong] = &[
         "full-other-car",
         "a full list of another car refuses too",
         full_other_car,
+    ),
+    wrong(
+        "full-all-cars",
+        "32 phones under all cars together are full",
+        full_all_cars,
+    ),
+    wrong(
+        "fifth-car-refused",
+        "a fifth car gets 21",
+        fifth_car_refused,
     ),
     wrong(
         "full-before-code",
@@ -233,30 +244,24 @@ fn no_session_silent(gate: &mut Gate, call: &Call) -> Reply {
     reply
 }
 
-/// Runs the call on the same gate and, if `full` says so of the list before it, takes its success back and answers 21.
-fn refuse_success(gate: &mut Gate, call: &Call, full: fn(&Listed) -> bool) -> Reply {
-    let submit = matches!(call, Call::Submit { .. });
-    let complete = matches!(call, Call::Complete { .. });
-    let (Some(session), Some((car, phones))) = (validation::session(), phone_trust::validations())
-    else {
+/// Runs the call on the same gate and, if `full` says so of the store before it, takes its success back and answers 21.
+fn refuse_success(gate: &mut Gate, call: &Call, full: fn(&Before) -> bool) -> Reply {
+    let Some(session) = validation::session() else {
         return run(gate, call);
     };
+    let shelf = gate.shelf.clone();
     let challenge = core_interface::current_validation_challenge();
     let mut reply = run(gate, call);
-    let succeeded =
-        (submit && reply.answer == Answer::Ok) || (complete && reply.answer == Answer::Yes);
-    let listed = Listed {
-        count: phones.len(),
-        this_car: car == session.car,
-        holds: phones.contains(&session.phone),
-    };
-    if !succeeded || !full(&listed) {
+    let submit = matches!(call, Call::Submit { .. });
+    let succeeded = validates(call, &reply);
+    let before = Before::of(&shelf, &session);
+    if !succeeded || !full(&before) {
         return reply;
     }
     gate.tries = session.attempts_left;
     validation::set_session(Some(session));
     validation::set_challenge_quietly(challenge);
-    phone_trust::set_validations(Some((car, phones)));
+    gate.shelf = shelf;
     reply.answer = Answer::Refused(Refusal::ListFull);
     reply.values = Default::default();
     reply.signals = Default::default();
@@ -265,25 +270,60 @@ fn refuse_success(gate: &mut Gate, call: &Call, full: fn(&Listed) -> bool) -> Re
     reply
 }
 
-/// The list before a success.
-struct Listed {
-    count: usize,
-    this_car: bool,
+/// Whether the call ended a session well.
+pub fn validates(call: &Call, reply: &Reply) -> bool {
+    matches!(call, Call::Submit { .. } | Call::Complete { .. })
+        && reply.signals.validations.is_some()
+}
+
+/// The store before a success.
+struct Before {
+    /// The phones of the session's car, if it is there.
+    count: Option<usize>,
     holds: bool,
+    another_full: bool,
+    total: usize,
+    cars: usize,
+}
+
+impl Before {
+    fn of(shelf: &Shelf, session: &SessionView) -> Self {
+        let listed = shelf.of(session.car);
+        Self {
+            count: listed.map(|(_, phones)| phones.len()),
+            holds: listed.is_some_and(|(_, phones)| phones.contains(&session.phone)),
+            another_full: shelf
+                .0
+                .iter()
+                .any(|(car, phones)| *car != session.car && phones.len() == MAX_PHONES),
+            total: shelf.0.iter().map(|(_, phones)| phones.len()).sum(),
+            cars: shelf.0.len(),
+        }
+    }
 }
 
 fn full_at_31(gate: &mut Gate, call: &Call) -> Reply {
-    refuse_success(gate, call, |list| {
-        list.this_car && !list.holds && list.count == 31
+    refuse_success(gate, call, |before| {
+        !before.holds && before.count == Some(31)
     })
 }
 
 fn full_if_listed(gate: &mut Gate, call: &Call) -> Reply {
-    refuse_success(gate, call, |list| list.this_car && list.count == 32)
+    refuse_success(gate, call, |before| before.count == Some(32))
 }
 
 fn full_other_car(gate: &mut Gate, call: &Call) -> Reply {
-    refuse_success(gate, call, |list| !list.this_car && list.count == 32)
+    refuse_success(gate, call, |before| !before.holds && before.another_full)
+}
+
+fn full_all_cars(gate: &mut Gate, call: &Call) -> Reply {
+    refuse_success(gate, call, |before| !before.holds && before.total >= 32)
+}
+
+fn fifth_car_refused(gate: &mut Gate, call: &Call) -> Reply {
+    refuse_success(gate, call, |before| {
+        before.count.is_none() && before.cars == 4
+    })
 }
 
 fn full_before_code(gate: &mut Gate, call: &Call) -> Reply {
@@ -298,13 +338,12 @@ fn full_before_code(gate: &mut Gate, call: &Call) -> Reply {
         && session.status == InProgress
         && session.phone == *phone
         && session.code.is_some()
-        && let Some((car, phones)) = phone_trust::validations()
-        && car == session.car
+        && let Some((_, phones)) = gate.shelf.of(session.car)
         && phones.len() == 32
         && !phones.contains(phone)
     {
         phone_trust::notify_phone_access_changed();
-        return reply(refused(Refusal::ListFull));
+        return reply(gate, refused(Refusal::ListFull));
     }
     run(gate, call)
 }
@@ -324,7 +363,7 @@ fn cooldown_longest(gate: &mut Gate, call: &Call) -> Reply {
 }
 
 fn success_listed_silent(gate: &mut Gate, call: &Call) -> Reply {
-    let before = core_interface::encode_phone_validations();
+    let before = gate.shelf.record();
     let mut reply = run(gate, call);
     if reply.signals.validations.as_ref() == Some(&before) {
         reply.signals.validations = None;

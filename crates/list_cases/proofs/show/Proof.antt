@@ -20,14 +20,17 @@ slice-aggregate-write-all-2 c = search needs
 write-all-requires-3 : tie.Need-write-all-requires-3
 write-all-requires-3 c κs = search needs
 
+show-number-requires : tie.Need-show-number-requires
+show-number-requires c κs = tt
+
 list-record-requires : tie.Need-list-record-requires
 list-record-requires c κs = tt
 
 array-share-prefix-bytes : tie.Need-array-share-prefix-bytes
-array-share-prefix-bytes c = let l = c .before .list-record in listing-fits (l .result) (now (c .before .before .before .before .before .before .before .before .before .args .input)) (l .ensures)
+array-share-prefix-bytes c = let l = c .before .list-record in listing-fits (l .result) (now (c .before .before .before .before .before .before .before .before .before .before .args .input)) (l .ensures)
 
 slice-aggregate-write-all-3 : tie.Need-slice-aggregate-write-all-3
-slice-aggregate-write-all-3 c = let l = c .before .before .list-record in listing-prefix (l .result) (now (c .before .before .before .before .before .before .before .before .before .before .args .input)) (l .ensures)
+slice-aggregate-write-all-3 c = let l = c .before .before .list-record in listing-prefix (l .result) (now (c .before .before .before .before .before .before .before .before .before .before .before .args .input)) (l .ensures)
 
 write-all-requires-4 : tie.Need-write-all-requires-4
 write-all-requires-4 c κs = search needs
@@ -44,6 +47,7 @@ show-spec =
     write-all-requires-2
     slice-aggregate-write-all-2
     write-all-requires-3
+    show-number-requires
     list-record-requires
     array-share-prefix-bytes
     slice-aggregate-write-all-3

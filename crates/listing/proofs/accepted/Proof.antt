@@ -1,72 +1,64 @@
--- `listing::accepted` meets its contract: four texts, each after the one before. Assumes nothing.
+-- The invariant: the lines of the cars that are left, written from `len` on, make what is to be written, and their parts stand in the record
+-- from `next` on (`Listed`). The measure is what is left of the count.
+use mathlib.Core.Path.{_≡_, sym, _∙_}
+use Prim.Native.Nat.{ℕ, _-_, _≤_}
 use native.Mathlib.Omega.{arith}
-use denote.Ref.{now}
-use Rattle.listing.specs.Walk.{idsFrom}
-use Rattle.listing.proofs.Record.{accepted-parts, accepted-written}
 use borrow.Author.Needs.{needs}
+use lib.ListN.{length, length-replicate}
+use Rattle.arrays.proofs.Laws.{long-map}
+use Rattle.saved_record.specs.Store.{carOf, carsOf}
+use Rattle.saved_record.proofs.Laws.{pastCars, used, used-clamped, used-length, used-at}
+use Rattle.listing.proofs.Cars.{Listed, listed-first, listed-stands, listed-fits, listed-more, listed-all}
 use Rattle.listing.proofs.accepted.Statement.{statement}
 use Rattle.listing.proofs.accepted.Tie as tie
 
-slice-aggregate-put-text : tie.Need-slice-aggregate-put-text
-slice-aggregate-put-text c = search needs
+abbrev Inv-loop : tie.InvT-loop
+Inv-loop saved from n cars bytes₀ len₀ next₀ i₀ bytes len next i = (n ≤ 4) × (length cars ≡ 4) × (length (used n cars) ≡ n) × Listed saved (used n cars) bytes len next i
 
-slice-aggregate-put-text-2 : tie.Need-slice-aggregate-put-text-2
-slice-aggregate-put-text-2 c = search needs
-
-put-text-requires : tie.Need-put-text-requires
-put-text-requires c κs = search needs
-
-slice-aggregate-put-hex-line : tie.Need-slice-aggregate-put-hex-line
-slice-aggregate-put-hex-line c = search needs
-
-slice-aggregate-put-hex-line-2 : tie.Need-slice-aggregate-put-hex-line-2
-slice-aggregate-put-hex-line-2 c = search needs
-
-slice-aggregate-put-hex-line-3 : tie.Need-slice-aggregate-put-hex-line-3
-slice-aggregate-put-hex-line-3 c = search needs
-
-put-hex-line-requires : tie.Need-put-hex-line-requires
-put-hex-line-requires c κs = omega (arith, accepted-parts (c .before .before .before .before .before .before .before .before .args .t2) (c .before .before .before .before .before .before .before .before .args .count) (idsFrom (c .before .before .before .before .before .before .before .before .args .count) (now (c .before .before .before .before .before .before .before .before .args .saved)) 34))
-
-slice-aggregate-put-number-line : tie.Need-slice-aggregate-put-number-line
-slice-aggregate-put-number-line c = search needs
-
-slice-aggregate-put-number-line-2 : tie.Need-slice-aggregate-put-number-line-2
-slice-aggregate-put-number-line-2 c = search needs
-
-put-number-line-requires : tie.Need-put-number-line-requires
-put-number-line-requires c κs = omega (arith, accepted-parts (c .before .before .before .before .before .before .before .before .before .before .before .before .args .t2) (c .before .before .before .before .before .before .before .before .before .before .before .before .args .count) (idsFrom (c .before .before .before .before .before .before .before .before .before .before .before .before .args .count) (now (c .before .before .before .before .before .before .before .before .before .before .before .before .args .saved)) 34))
-
-slice-aggregate-put-phones : tie.Need-slice-aggregate-put-phones
-slice-aggregate-put-phones c = search needs
-
-put-phones-requires : tie.Need-put-phones-requires
-put-phones-requires c κs = omega (arith, accepted-parts (c .before .before .before .before .before .before .before .before .before .before .before .before .before .before .before .args .t2) (c .before .before .before .before .before .before .before .before .before .before .before .before .before .before .before .args .count) (idsFrom (c .before .before .before .before .before .before .before .before .before .before .before .before .before .before .before .args .count) (now (c .before .before .before .before .before .before .before .before .before .before .before .before .before .before .before .args .saved)) 34))
-
-returns : tie.Need-returns
-returns c =
-    let a = c .before .before .before .before .before .before .before .before .before .before .before .before .before .before .before .before .before .args in
-    let w₁ = c .before .before .before .before .before .before .before .before .before .before .before .before .before .put-text in
-    let w₂ = c .before .before .before .before .before .before .before .before .put-hex-line in
-    let w₃ = c .before .before .before .before .put-number-line in
-    let w₄ = c .before .put-phones in
-    accepted-written (a .t2) (a .count) (idsFrom (a .count) (now (a .saved)) 34) (w₁ .last .0) (w₂ .last .0) (w₃ .last .0) (w₄ .last .0) (w₁ .result) (w₂ .result) (w₃ .result) (w₄ .result)
-    (w₁ .ensures) (w₂ .ensures) (w₃ .ensures) (w₄ .ensures) (c .before .before .before .before .before .before .before .before .before .before .before .before .before .before .before .before .before .pre)
+abbrev μ-loop : tie.MeasureT-loop
+μ-loop saved from n cars bytes₀ len₀ next₀ i₀ bytes len next i = n - i
 
 pub accepted-spec : {M : Type 1} → statement M
 accepted-spec =
     tie.close
     (tie.spec
-    slice-aggregate-put-text
-    slice-aggregate-put-text-2
-    put-text-requires
-    slice-aggregate-put-hex-line
-    slice-aggregate-put-hex-line-2
-    slice-aggregate-put-hex-line-3
-    put-hex-line-requires
-    slice-aggregate-put-number-line
-    slice-aggregate-put-number-line-2
-    put-number-line-requires
-    slice-aggregate-put-phones
-    put-phones-requires
-    returns)
+    Inv-loop
+    μ-loop
+    (λ c κs. tt)
+    (λ c. search needs)
+    (λ c. search needs)
+    (λ c κs. search needs)
+    (λ c.
+    let s = c .before .before .before .before .before .before .before in
+    let n = c .before .before .before .before .before .clamp-cars in
+    let w = c .before .put-text in
+    let far : length (s .args .store .cars) ≡ 4 = search (needs, long-map) in
+    let many = used-length (n .result) (s .args .store .cars) (omega arith) in
+    let size : length (w .last .0) ≡ 9414 = w .kept .0 in
+    (omega arith, far, many, rw (used-clamped (s .args .store) (n .result) far (n .ensures)) (listed-first (s .args .saved .now) (carsOf (s .args .store)) (s .args .from) (s .pre .0) (s .pre .1) (w .last .0) (w .result) (w .ensures) size)))
+    (λ c. omega arith)
+    (λ c. omega arith)
+    (λ c. sym (c .before .before .before .loop .inv .3 .going .size ∙ length-replicate {A = ℕ} 9414 0))
+    (λ c κs.
+    let s = c .before .before .before .before .before .before .before .before .before .before .before in
+    let cars = s .args .store .cars in
+    let n = c .before .before .before .before .before .before .before .before .before .clamp-cars .result in
+    let l = c .before .before .before .loop in
+    let here = used-at n cars (l .i) (c .before .before .loop-test .taken) in
+    (listed-stands (s .args .saved .now) (used n cars) (l .bytes) (l .len) (l .next) (l .i) (l .inv .3) (carOf pastCars) _ (omega arith) here, listed-fits (s .args .saved .now) (used n cars) (l .bytes) (l .len) (l .next) (l .i) (l .inv .3) (carOf pastCars) _ (omega arith) here))
+    (λ c. omega arith)
+    (λ c. omega arith)
+    (λ c.
+    let s = c .before .before .before .before .before .before .before .before .before .before .before .before .before in
+    let cars = s .args .store .cars in
+    let n = c .before .before .before .before .before .before .before .before .before .before .before .clamp-cars .result in
+    let l = c .before .before .before .before .before .loop in
+    let here = used-at n cars (l .i) (c .before .before .before .before .loop-test .taken) in
+    let w = c .before .put-car in
+    (l .inv .0, l .inv .1, l .inv .2, rw (w .ensures .read) (listed-more (s .args .saved .now) (used n cars) (l .bytes) (l .len) (l .next) (l .i) (l .inv .3) (carOf pastCars) _ (omega arith) here (w .last .0) (w .result .end) (w .ensures .wrote) (w .kept .0))))
+    (λ c.
+    let s = c .before .before .before .before .before .before .before .before .before in
+    let n = c .before .before .before .before .before .before .before .clamp-cars in
+    let l = c .before .loop in
+    rw (← used-clamped (s .args .store) (n .result) (l .inv .1) (n .ensures))
+    (listed-all (s .args .saved .now) (used (n .result) (s .args .store .cars)) (l .bytes) (l .len) (l .next) (l .i) (l .inv .3) (omega arith))))

@@ -2,7 +2,7 @@ use Rattle.pairing.specs.Pairing.{unpair, unpairing}
 use Rattle.phones.specs.Ids.{removeFirst}
 use Rattle.phones.specs.Phones.{phonesOf}
 use Rattle.state.specs.declared.Answer.the-variants.{Yes}
-use Rattle.state.specs.View.{storeIn}
+use Rattle.saved_record.specs.Store.{carsOf}
 use Rattle.validations.specs.Store.{forgetting}
 use Rattle.pairing.proofs.Laws.{paired-first}
 use Rattle.pairing.proofs.remove_paired_phone.Statement.{statement}
@@ -22,7 +22,7 @@ unfolding unpair unpairing
 returns c =
     let a = c .before .before .before .before .before .before .args in
     rw (c .forgetting .ensures, c .before .remove-first .ensures, ← c .before .before .before .contains .ensures, c .before .before .if1 .taken)
-    (paired-first (a .p) Yes (removeFirst (a .id .now) (phonesOf (a .p .paired))) (forgetting (storeIn (a .p .store)) (a .id .now)))
+    (paired-first (a .p) Yes (removeFirst (a .id .now) (phonesOf (a .p .paired))) (forgetting (carsOf (a .p .store)) (a .id .now)))
 
 forgetting-requires-2 : tie.Need-forgetting-requires-2
 forgetting-requires-2 c κs = tt

@@ -9,12 +9,12 @@ core-fits-requires c κs = tt
 list-in-range-requires : tie.Need-list-in-range-requires
 list-in-range-requires c κs = tt
 
-list-in-range-requires-2 : tie.Need-list-in-range-requires-2
-list-in-range-requires-2 c κs = tt
+store-in-range-requires : tie.Need-store-in-range-requires
+store-in-range-requires c κs = tt
 
 returns : tie.Need-returns
 unfolding inRange view
-returns c = rw (← c .before .before .before .before .before .before .core-fits .ensures, c .before .before .before .before .before .if1 .taken, ← c .before .before .before .list-in-range .ensures, c .before .before .if2 .taken, ← c .list-in-range2 .ensures)
+returns c = rw (← c .before .before .before .before .before .before .core-fits .ensures, c .before .before .before .before .before .if1 .taken, ← c .before .before .before .list-in-range .ensures, c .before .before .if2 .taken, ← c .store-in-range .ensures)
 
 returns-2 : tie.Need-returns-2
 unfolding inRange view
@@ -30,7 +30,7 @@ in-range-spec =
     (tie.spec
     core-fits-requires
     list-in-range-requires
-    list-in-range-requires-2
+    store-in-range-requires
     returns
     returns-2
     returns-3)

@@ -8,7 +8,8 @@ use lib.Seq.{getD-take}
 use borrow.Author.Needs.{needs}
 use borrow.Author.Tests.{lt-ltb, le-ltb}
 use Rattle.arrays.proofs.Laws.{long-map}
-use Rattle.range.specs.Range.{allOf, methodFits, allFit, methodsIn}
+use Rattle.phones.specs.Ids.{allOf}
+use Rattle.range.specs.Range.{methodFits, allFit, methodsIn}
 use Rattle.state.specs.Running.{pastMethods}
 use Rattle.range.proofs.Laws.{all-again, all-failed, all-end}
 use Rattle.range.proofs.methods_in.Statement.{statement}

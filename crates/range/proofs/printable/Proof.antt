@@ -5,7 +5,8 @@ use Prim.Native.Nat.{_≤_, _-_}
 use native.Mathlib.Omega.{arith}
 use lib.ListN.{length, drop, getD}
 use borrow.Author.Tests.{lt-ltb, le-ltb}
-use Rattle.range.specs.Range.{within, allOf, printable}
+use Rattle.phones.specs.Ids.{allOf}
+use Rattle.range.specs.Range.{within, printable}
 use Rattle.range.proofs.Laws.{all-again, all-failed, all-end}
 use Rattle.range.proofs.printable.Statement.{statement}
 use Rattle.range.proofs.printable.Tie as tie

@@ -11,4 +11,4 @@ put-pairings-spec =
     (λ c κs. tt)
     (λ c κs. tt)
     (λ c. search needs)
-    (λ c. rw (c .before .before .put-validated .ensures, c .before .before .before .before .before .before .before .put-phones .ensures)))
+    (λ c. rw (c .before .before .put-cars .ensures, c .before .before .before .before .before .before .before .put-phones .ensures)))

@@ -1,72 +1,61 @@
--- The bytes before the phones are stored one after the other; the phones are written after them.
+-- The loop's invariant: the parts of the first i cars are written (`Filled`). The measure is what is left of the count.
 use mathlib.Core.Path.{_≡_, sym, _∙_}
-use Prim.Native.Nat.{_≤_}
+use Prim.Native.Nat.{_-_, _≤_}
 use native.Mathlib.Omega.{arith}
 use borrow.Author.Needs.{needs}
-use lib.ListN.{length, length-set}
-use Rattle.phones.specs.Phones.{phonesOf}
-use Rattle.phones.proofs.Owned.{owned-count}
-use Rattle.phone_fields.specs.PhoneFields.{fields}
-use Rattle.phone_fields.proofs.Laws.{owned-fields}
-use Rattle.saved_record.proofs.Writing.{record-empty, record-written}
+use lib.ListN.{length}
+use Rattle.arrays.proofs.Laws.{long-map}
+use Rattle.saved_record.specs.Store.{carOf}
+use Rattle.saved_record.proofs.Laws.{pastCars, used, used-clamped, used-length, used-at}
+use Rattle.saved_record.proofs.Writing.{Filled, filled-none, filled-more, filled-all, none-written}
 use Rattle.saved_record.proofs.encode_phone_validations.Statement.{statement}
 use Rattle.saved_record.proofs.encode_phone_validations.Tie as tie
 
-count-requires : tie.Need-count-requires
-count-requires c κs = tt
+abbrev Inv-loop : tie.InvT-loop
+Inv-loop n cars bytes₀ len₀ i₀ bytes len i = (n ≤ 4) × (length cars ≡ 4) × (length (used n cars) ≡ n) × Filled (used n cars) bytes len i
 
-returns : tie.Need-returns
-returns c = record-empty (c .before .before .args .t1) (phonesOf (c .before .before .args .phones)) (sym (c .before .count .ensures) ∙ c .if1 .taken)
-
-array-write-bytes : tie.Need-array-write-bytes
-array-write-bytes c = search needs
-
-slice-aggregate-put : tie.Need-slice-aggregate-put
-slice-aggregate-put c = search needs
-
-slice-aggregate-put-2 : tie.Need-slice-aggregate-put-2
-slice-aggregate-put-2 c = search needs
-
-put-requires : tie.Need-put-requires
-put-requires c κs = search needs
-
-cast-bytes : tie.Need-cast-bytes
-cast-bytes c =
-    let few : length (phonesOf (c .before .before .before .before .before .before .args .phones)) ≤ 32 = search (needs, owned-count) in
-    omega arith
-
-array-write-bytes-2 : tie.Need-array-write-bytes-2
-array-write-bytes-2 c = search needs
-
-slice-aggregate-put-fields : tie.Need-slice-aggregate-put-fields
-slice-aggregate-put-fields c = search needs
-
-put-fields-requires : tie.Need-put-fields-requires
-put-fields-requires c κs =
-    let l = c .before .before .before .before .before .before .before .args .phones in
-    let room : length (fields (phonesOf l)) ≤ 1056 = search (needs, owned-fields) in
-    rw (length-set, c .before .before .put .kept .0, length-set) (omega arith)
-
-returns-2 : tie.Need-returns-2
-returns-2 c =
-    let s = c .before .before .before .before .before .before .before .before .before in
-    let count = c .before .before .before .before .before .before .before .before .count in
-    let far : length (s .args .t1) ≡ 32 = search needs in
-    let put = c .before .put-fields .ensures in
-    record-written (s .args .t1) (phonesOf (s .args .phones)) (count .result) _ _ far (count .ensures) (c .before .before .before .before .before .before .before .if1 .left) (put .0) (rw (c .before .before .before .before .put .ensures) at (put .1))
+abbrev μ-loop : tie.MeasureT-loop
+μ-loop n cars bytes₀ len₀ i₀ bytes len i = n - i
 
 pub encode-phone-validations-spec : {M : Type 1} → statement M
 encode-phone-validations-spec =
     tie.close
     (tie.spec
-    count-requires
-    returns
-    array-write-bytes
-    slice-aggregate-put
-    slice-aggregate-put-2
-    put-requires
-    cast-bytes
-    array-write-bytes-2
-    slice-aggregate-put-fields
-    put-fields-requires
-    returns-2)
+    Inv-loop
+    μ-loop
+    (λ c κs. tt)
+    (λ c κs. tt)
+    (λ c.
+    let s = c .before .before .before .args .store in
+    let n = c .before .before .clamp-cars in
+    let far : length (s .cars) ≡ 4 = search (needs, long-map) in
+    let many = used-length (n .result) (s .cars) (omega arith) in
+    c .no-record .ensures ∙ rw (← used-clamped s (n .result) far (n .ensures)) (none-written (used (n .result) (s .cars)) (many ∙ c .before .if1 .taken)))
+    (λ c. search needs)
+    (λ c. omega arith)
+    (λ c. search needs)
+    (λ c.
+    let s = c .before .before .before .args .store in
+    let n = c .before .before .clamp-cars .result in
+    let far : length (s .cars) ≡ 4 = search (needs, long-map) in
+    let many = used-length n (s .cars) (omega arith) in
+    (omega arith, far, many, filled-none (used n (s .cars)) n many))
+    (λ c. omega arith)
+    (λ c. omega arith)
+    (λ c. sym (c .before .before .before .loop .inv .3 .long))
+    (λ c κs. let w = c .before .before .before .loop .inv .3 in let r = w .room in let l = w .long in omega arith)
+    (λ c. omega arith)
+    (λ c. omega arith)
+    (λ c.
+    let cars = c .before .before .before .before .before .before .before .before .before .args .store .cars in
+    let n = c .before .before .before .before .before .before .before .before .clamp-cars .result in
+    let loop = c .before .before .before .before .before .loop in
+    let put = c .before .put-car in
+    let here = used-at n cars (loop .i) (c .before .before .before .before .loop-test .taken) in
+    (loop .inv .0, loop .inv .1, loop .inv .2, filled-more (used n cars) (loop .bytes) (loop .len) (loop .i) (loop .inv .3) (carOf pastCars) (omega arith) (put .last .1 .0) (put .result) (omega arith) (rw here (put .ensures))))
+    (λ c.
+    let s = c .before .before .before .before .before .args .store in
+    let n = c .before .before .before .before .clamp-cars in
+    let loop = c .before .loop in
+    rw (← used-clamped s (n .result) (loop .inv .1) (n .ensures))
+    (filled-all (used (n .result) (s .cars)) (loop .bytes) (loop .len) (loop .i) (loop .inv .3) (λ z. c .before .before .before .if1 .left (sym (loop .inv .2) ∙ z)) (omega arith))))

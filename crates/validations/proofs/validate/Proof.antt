@@ -1,58 +1,82 @@
-use mathlib.Core.Path.{_≡_}
+use mathlib.Core.Path.{_≡_, sym, ap, _∙_}
+use mathlib.Core.List.{List, [], _∷_, _++_}
 use native.Mathlib.Omega.{arith}
 use borrow.Author.Needs.{needs}
-use lib.ListN.{length}
-use Rattle.validations.proofs.Laws.{append-one, of-car-laid}
-use Rattle.validations.specs.Store.{validating}
+use lib.ListN.{length, getD}
+use Rattle.arrays.proofs.Laws.{long-map}
+use Rattle.phones.specs.declared.PhoneList.{PhoneList}
 use Rattle.phones.specs.Ids.{pushed}
-use Rattle.phones.specs.Phones.{idBytes, phonesOf}
-use Rattle.phones.proofs.Laws.{used-length}
+use Rattle.phones.specs.Phones.{idBytes, phonesOf, laid}
+use Rattle.saved_record.proofs.Laws.{pastCars}
+use Rattle.validations.proofs.Laws.{cars-length, phones-at, car-at, car-none, grown, not-grown, validated-there, validated-full, validated-more, validated-new}
 use Rattle.validations.proofs.validate.Statement.{statement}
 use Rattle.validations.proofs.validate.Tie as tie
-
-is-of-car-requires : tie.Need-is-of-car-requires
-is-of-car-requires c κs = tt
-
-contains-id-requires : tie.Need-contains-id-requires
-contains-id-requires c κs = tt
-
-returns : tie.Need-returns
-unfolding validating
-returns c = rw (← c .before .before .before .is-of-car .ensures, c .before .before .if1 .taken, ← c .before .contains-id .ensures, c .if2 .taken)
-
-append-requires : tie.Need-append-requires
-append-requires c κs = tt
-
-returns-2 : tie.Need-returns-2
-unfolding validating
-returns-2 c =
-    let a = c .before .before .before .before .before .before .before .args in
-    rw (c .append .ensures, ← c .before .before .before .before .before .is-of-car .ensures, c .before .before .before .before .if1 .taken, ← c .before .before .before .contains-id .ensures, c .before .before .if2 .left)
-    (of-car-laid (a .v) (pushed (idBytes (a .p)) (phonesOf (a .v .phones))))
-
-empty-list-requires : tie.Need-empty-list-requires
-empty-list-requires c κs = tt
-
-append-requires-2 : tie.Need-append-requires-2
-append-requires-2 c κs = tt
-
-returns-3 : tie.Need-returns-3
-unfolding validating
-returns-3 c =
-    let a = c .before .before .before .before .before .args in
-    let far : length (a .p .bytes) ≡ 32 = search needs in
-    let short = used-length (a .p) far in
-    rw (c .append2 .ensures, c .before .empty-list .ensures, append-one (idBytes (a .p)) (omega arith), ← c .before .before .before .is-of-car .ensures, c .before .before .if1 .left)
 
 pub validate-spec : {M : Type 1} → statement M
 validate-spec =
     tie.close
     (tie.spec
-    is-of-car-requires
-    contains-id-requires
-    returns
-    append-requires
-    returns-2
-    empty-list-requires
-    append-requires-2
-    returns-3)
+    (λ c κs. tt)
+    (λ c κs. tt)
+    (λ c. omega arith)
+    (λ c. search needs)
+    (λ c κs. tt)
+    (λ c.
+    let a = c .before .before .before .before .before .before .before .before .args in
+    let far : length (a .s .cars) ≡ 4 = search (needs, long-map) in
+    let n = c .before .before .before .before .before .before .clamp-cars in
+    let at = c .before .before .before .before .before .before .before .place-of in
+    let has = car-at (a .s) (n .result) far (n .ensures) (a .car) (at .result) (at .ensures) (c .before .before .before .before .before .if1 .taken) in
+    let list = getD (a .s .cars) (at .result) pastCars .phones in
+    let lists = phones-at (a .s) (n .result) far (n .ensures) (a .car) (at .result) (at .ensures) (c .before .before .before .before .before .if1 .taken) in
+    let id = idBytes (a .p) in
+    validated-there (a .s) (a .car) id list lists has (sym (c .before .contains-id .ensures) ∙ c .if2 .taken))
+    (λ c κs. tt)
+    (λ c κs. tt)
+    (λ c κs. tt)
+    (λ c κs.
+    let a = c .before .before .before .before .before .before .before .before .before .before .before .before .args in
+    let far : length (a .s .cars) ≡ 4 = search (needs, long-map) in
+    let n = c .before .before .before .before .before .before .before .before .before .before .clamp-cars in
+    let l = cars-length (a .s) (n .result) far (n .ensures) in
+    let h = c .before .before .before .before .before .before .before .before .before .if1 .taken in
+    omega arith)
+    (λ c.
+    let a = c .before .before .before .before .before .before .before .before .before .before .before .before .before .args in
+    let far : length (a .s .cars) ≡ 4 = search (needs, long-map) in
+    let n = c .before .before .before .before .before .before .before .before .before .before .before .clamp-cars in
+    let at = c .before .before .before .before .before .before .before .before .before .before .before .before .place-of in
+    let has = car-at (a .s) (n .result) far (n .ensures) (a .car) (at .result) (at .ensures) (c .before .before .before .before .before .before .before .before .before .before .if1 .taken) in
+    let list = getD (a .s .cars) (at .result) pastCars .phones in
+    let lists = phones-at (a .s) (n .result) far (n .ensures) (a .car) (at .result) (at .ensures) (c .before .before .before .before .before .before .before .before .before .before .if1 .taken) in
+    let id = idBytes (a .p) in
+    let more = c .before .before .before .before .append .ensures in
+    let count = c .before .before .before .count .ensures in
+    let longer : c .before .before .count2 .result ≡ length (phonesOf (laid list (pushed id (phonesOf list)))) = c .before .before .count2 .ensures ∙ ap (λ (x : PhoneList). length (phonesOf x)) more in
+    let h = c .before .if3 .taken in
+    let g = grown list id (omega arith) in
+    let ps = phonesOf list ++ (id ∷ []) in
+    c .put-phones .ensures ps (more ∙ ap (laid list) g)
+    ∙ validated-more (a .s) (a .car) id list lists has (sym (c .before .before .before .before .before .before .contains-id .ensures) ∙ c .before .before .before .before .before .if2 .left) (at .result) ps (at .ensures) g)
+    (λ c.
+    let a = c .before .before .before .before .before .before .before .before .before .before .before .before .args in
+    let far : length (a .s .cars) ≡ 4 = search (needs, long-map) in
+    let n = c .before .before .before .before .before .before .before .before .before .before .clamp-cars in
+    let at = c .before .before .before .before .before .before .before .before .before .before .before .place-of in
+    let has = car-at (a .s) (n .result) far (n .ensures) (a .car) (at .result) (at .ensures) (c .before .before .before .before .before .before .before .before .before .if1 .taken) in
+    let list = getD (a .s .cars) (at .result) pastCars .phones in
+    let lists = phones-at (a .s) (n .result) far (n .ensures) (a .car) (at .result) (at .ensures) (c .before .before .before .before .before .before .before .before .before .if1 .taken) in
+    let id = idBytes (a .p) in
+    let more = c .before .before .before .append .ensures in
+    let count = c .before .before .count .ensures in
+    let longer : c .before .count2 .result ≡ length (phonesOf (laid list (pushed id (phonesOf list)))) = c .before .count2 .ensures ∙ ap (λ (x : PhoneList). length (phonesOf x)) more in
+    let h = c .if3 .left in
+    validated-full (a .s) (a .car) id list lists has (sym (c .before .before .before .before .before .contains-id .ensures) ∙ c .before .before .before .before .if2 .left) (not-grown list id (omega arith)))
+    (λ c κs. tt)
+    (λ c.
+    let a = c .before .before .before .before .args in
+    let far : length (a .s .cars) ≡ 4 = search (needs, long-map) in
+    let n = c .before .before .clamp-cars in
+    let at = c .before .before .before .place-of in
+    let has = car-none (a .s) (n .result) far (n .ensures) (a .car) (at .result) (at .ensures) (c .before .if1 .left) in
+    c .add-car .ensures ∙ validated-new (a .s) (a .car) (idBytes (a .p)) has))
