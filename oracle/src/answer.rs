@@ -40,6 +40,8 @@ pub enum Refusal {
     BadFrame = 24,
     BadSettings = 25,
     CarTwice = 28,
+    ManyCars = 29,
+    ShortOutput = 30,
 }
 
 impl From<ValidationError> for Refusal {

@@ -138,6 +138,7 @@ calls! {
     Challenge "current_validation_challenge" {}
     Encode "encode_phone_validations" {}
 
+    Convert "convert_phone_validations" { record: Bytes, target: bool, output: Bytes }
     SetCounters "set_counters" { next_session: u32, relocks: u32 }
     State "state" {}
 }

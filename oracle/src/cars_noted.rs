@@ -1,8 +1,10 @@
-//! What a call did to the cars of the store, as items behind its line, for the histogram alone (required/cars.txt).
+//! What a call did to the cars of the store, and what a converted record is, as items behind its line, for the histogram
+//! alone (required/cars.txt).
 
 use crate::added::MAX_PHONES;
 use crate::answer::{Answer, Refusal, Reply};
 use crate::calls::Call;
+use crate::convert::convert;
 use crate::items::{Bytes, Class};
 use crate::shelf::{Listed, MAX_CARS, Shelf, identified, parts, whole_parts};
 use core_interface::CarDigest;
@@ -18,6 +20,11 @@ pub fn noted(call: &Call, reply: &Reply, before: &Shelf, after: &Shelf) -> Vec<S
             texts(&["cars=another_kept"])
         }
         Call::Restore { record } => of_record(record),
+        Call::Convert {
+            record,
+            target,
+            output,
+        } => of_conversion(record, *target, output.len()),
         Call::IsValidated { phone } | Call::TrustLevel { phone } => of_query(phone, after),
         Call::Allow {
             class: Class::Command(owner),
@@ -119,6 +126,25 @@ fn of_record(record: &[u8]) -> Vec<String> {
     }
     if parts(record).is_some() {
         items.push("cut=yes".to_string());
+    }
+    items
+}
+
+/// What the record has, the target, and how the lent length stands to the room if there is one.
+fn of_conversion(record: &[u8], two: bool, lent: usize) -> Vec<String> {
+    let mut items = of_record(record);
+    items.push(format!("to={}", 1 + usize::from(two)));
+    let room = convert(record, two, &[]).room;
+    if room > 0 {
+        let stands = match lent {
+            0 => "none",
+            lent if lent + 1 == room => "one_short",
+            lent if lent < room => "short",
+            lent if lent == room => "full",
+            lent if lent == room + 1 => "one_over",
+            _ => "over",
+        };
+        items.push(format!("lent={stands}"));
     }
     items
 }

@@ -1,14 +1,16 @@
 //! The oracle: the access gate's Rust source, run call by call from a script.
 //!
 //! `items` and `calls` read and write scripts (docs/REPLAY.md), `gate` runs a call on the source, `added` holds what
-//! documents 01 and 02 add around it (ADDED.md), `marks` when each bus was heard, `shelf` the cars of the store, `queries`
-//! the calls that change nothing, `answer` what is printed, `state` the dump of the source's statics, `wrong` deliberate
-//! mistakes for testing the comparison itself, `cars_noted` what the histogram is told of the store.
+//! documents 01 and 02 add around it (ADDED.md), `marks` when each bus was heard, `shelf` the cars of the store, `convert`
+//! the converter of records, `queries` the calls that change nothing, `answer` what is printed, `state` the dump of the
+//! source's statics, `wrong` deliberate mistakes for testing the comparison itself, `cars_noted` what the histogram is told
+//! of the store and of records.
 
 pub mod added;
 pub mod answer;
 pub mod calls;
 pub mod cars_noted;
+pub mod convert;
 pub mod gate;
 pub mod generate;
 pub mod hex;

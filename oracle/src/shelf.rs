@@ -4,7 +4,8 @@
 use crate::added::{MAX_ID_BYTES, MAX_PHONES};
 use crate::answer::{Answer, Refusal, Signals, Values};
 use crate::calls::Call;
-use crate::gate::{Gate, Outcome, plain, refused};
+use crate::convert::convert;
+use crate::gate::{Gate, Outcome, done, plain, refused};
 use crate::hex::to_hex;
 use crate::items::Bytes;
 use core_interface::CarDigest;
@@ -39,19 +40,24 @@ impl Shelf {
     /// The record: 2, the number of cars, and for each what the source writes behind its version. For no car it is what the
     /// source writes for none.
     pub fn record(&self) -> Bytes {
-        let there = phone_trust::validations();
-        phone_trust::set_validations(None);
-        let mut record = core_interface::encode_phone_validations();
+        let mut record = written_by_source(None);
         if !self.0.is_empty() {
             record.extend([2, self.0.len() as u8]);
         }
         for listed in &self.0 {
-            phone_trust::set_validations(Some(listed.clone()));
-            record.extend(&core_interface::encode_phone_validations()[1..]);
+            record.extend(&written_by_source(Some(listed))[1..]);
         }
-        phone_trust::set_validations(there);
         record
     }
+}
+
+/// What the source writes for a car, as version 1, or for none.
+pub fn written_by_source(listed: Option<&Listed>) -> Bytes {
+    let there = phone_trust::validations();
+    phone_trust::set_validations(listed.cloned());
+    let record = core_interface::encode_phone_validations();
+    phone_trust::set_validations(there);
+    record
 }
 
 /// Takes the source's list out of it.
@@ -123,7 +129,19 @@ pub fn read(record: &[u8]) -> Option<Vec<Listed>> {
     }
 }
 
-pub fn has_twice(cars: &[Listed]) -> bool {
+/// The cars of a record, or the first of 22, 28 and 23 over the whole of it.
+pub fn judged(record: &[u8]) -> Result<Vec<Listed>, Refusal> {
+    let cars = read(record).ok_or(Refusal::Malformed)?;
+    if has_twice(&cars) {
+        return Err(Refusal::CarTwice);
+    }
+    if cars.iter().any(is_over) {
+        return Err(Refusal::TooLarge);
+    }
+    Ok(cars)
+}
+
+fn has_twice(cars: &[Listed]) -> bool {
     let again = |at: usize| cars[..at].iter().any(|before| before.0 == cars[at].0);
     (0..cars.len()).any(again)
 }
@@ -155,6 +173,11 @@ impl Gate {
         match call {
             Call::Restore { record } if self.bare => restore_bare(&as_version_1(record)),
             Call::Restore { record } => self.restore(record),
+            Call::Convert {
+                record,
+                target,
+                output,
+            } => convert(record, *target, output).outcome(),
             Call::Encode {} => {
                 let record = to_hex(&self.record());
                 (Answer::Ok, Values::text(format!("record={record}")))
@@ -214,20 +237,11 @@ impl Gate {
         outcome
     }
 
-    /// 22, 28 and 23 in this order over the whole record; each empties the store. The signals are the source's.
+    /// Each refusal empties the store. The signals are the source's.
     fn restore(&mut self, record: &[u8]) -> Outcome {
-        self.shelf = Shelf::default();
-        let Some(cars) = read(record) else {
-            return refused(Refusal::Malformed);
-        };
-        if has_twice(&cars) {
-            return refused(Refusal::CarTwice);
-        }
-        if cars.iter().any(is_over) {
-            return refused(Refusal::TooLarge);
-        }
-        self.shelf = Shelf(cars);
-        plain(Answer::Ok)
+        let judged = judged(record);
+        self.shelf = Shelf(judged.clone().unwrap_or_default());
+        done(judged.map(|_| ()))
     }
 
     /// The cars of the store.

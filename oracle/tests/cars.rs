@@ -1,5 +1,5 @@
-//! The shelf of W-207, held against the source without it, against a plain reading of records and against a plain store.
-//! One test in one program, since the gate's statics are shared.
+//! The shelf of W-207, held against the source without it, against a plain reading of records and against a plain store, and
+//! the converter of W-208 against that reading. One test in one program, since the gate's statics are shared.
 
 use core_interface::oracle::{pairing, validation};
 use oracle::answer::{Answer, Refusal, Reply};
@@ -47,7 +47,7 @@ fn one_car_needs_no_shelf() {
 fn records_and_stores_are_as_02_says() {
     let mut gate = Gate::least();
     let mut cars: Vec<Listed> = Vec::new();
-    let mut read = 0;
+    let (mut read, mut converts) = (0, 0);
     for line in script(6, 40_000, OPTIONS).lines {
         let call = parse(&line).expect("a call").expect("no comment");
         if let Call::State {} = call {
@@ -60,11 +60,43 @@ fn records_and_stores_are_as_02_says() {
         if let Some(sent) = &reply.signals.validations {
             assert_eq!(*sent, record, "{line}");
         }
-        if let Call::Restore { .. } = call {
-            read += 1;
+        match &call {
+            Call::Restore { .. } => read += 1,
+            Call::Convert {
+                record,
+                target,
+                output,
+            } => {
+                converts += 1;
+                assert_eq!(reply.to_string(), converted(record, *target, output));
+            }
+            _ => {}
         }
     }
-    assert!(read > 500);
+    assert!(read > 500 && converts > 500);
+}
+
+/// What the converter gives: it changes the head alone.
+fn converted(record: &[u8], two: bool, output: &[u8]) -> String {
+    let target = judged(record).and_then(|_| match (record, two) {
+        ([1, body @ ..], true) => Ok([&[2, 1], body].concat()),
+        ([2, 1, body @ ..], false) => Ok([&[1], body].concat()),
+        ([2, ..], false) => Err(Refusal::ManyCars),
+        _ => Ok(record.to_vec()),
+    });
+    let mut lent = output.to_vec();
+    let (answer, room) = match &target {
+        Ok(target) if target.len() > lent.len() => {
+            (Answer::Refused(Refusal::ShortOutput), target.len())
+        }
+        Ok(target) => {
+            lent[..target.len()].copy_from_slice(target);
+            (Answer::Ok, target.len())
+        }
+        Err(refusal) => (Answer::Refused(*refusal), 0),
+    };
+    let lent: String = lent.iter().map(|byte| format!("{byte:02x}")).collect();
+    format!("answer={answer} room={room} output={lent} signals=none")
 }
 
 /// What a call does to a store of up to four cars.

@@ -11,7 +11,7 @@ ghost use mathlib.Core.Path.{_≡_};
 ghost use Prim.Native.Nat.{_≤_};
 ghost use lib.ListN.{length};
 ghost use Rattle.replay_lines.specs.Page.{page};
-ghost use Rattle.replay_player.specs.Played.{lineRoom};
+ghost use Rattle.replay_player.specs.Played.{mostRead, lineRoom};
 ghost use Rattle.replay_steps.specs.Turns.{turnOf};
 ghost use Rattle.replay.specs.Arguments.{askedBy};
 ghost use Rattle.replay.specs.Script.{keptLen, keptIn, lineIn, lineGives, hostAfter, read, ReadOn, readingOf, nextLine};
@@ -89,7 +89,7 @@ fn print(out: &[u8], at: usize) -> bool
 // Lays down what a line gives, which fits; one that is passed over gives nothing. What is left in `room` is open: nothing reads it
 // again.
 fn give_line(p: Replay, line: &[u8], states: bool, room: &mut [u8], out: &mut [u8]) -> Played
-    requires { ⌜ (length (now line) ≤ length (now room)) × (lineRoom ≤ length (now out)) ⌝ }
+    requires { ⌜ (length (now line) ≤ length (now room)) × (lineRoom ≤ length (now out)) × (length (now line) ≤ mostRead) ⌝ }
     ensures { λ r. ⌜ (turnOf r (now (out .exit)) ≡ lineGives states (p .host) (p .number) (lineIn (now (line .entry)) (p .len)) (page (now (out .entry)) 0)) × (r .at ≤ length (now (out .exit))) ⌝ }
 {
     let n = p.len;
@@ -107,7 +107,7 @@ fn give_line(p: Replay, line: &[u8], states: bool, room: &mut [u8], out: &mut [u
 // Plays the line that has ended; the next one has no byte yet. Open is whether it goes on, and what is left in `room` and `out`,
 // which nothing reads again.
 fn finish_line(p: Replay, line: &[u8], states: bool, room: &mut [u8], out: &mut [u8]) -> Replay
-    requires { ⌜ (length (now line) ≤ length (now room)) × (lineRoom ≤ length (now out)) ⌝ }
+    requires { ⌜ (length (now line) ≤ length (now room)) × (lineRoom ≤ length (now out)) × (length (now line) ≤ mostRead) ⌝ }
     ensures { λ r. ⌜ r ≡ nextLine (p .number) (hostAfter (p .host) (p .number) (lineIn (now (line .entry)) (p .len))) (r .going) ⌝ }
 {
     let r = give_line(p, line, states, room, out);
@@ -130,7 +130,7 @@ fn read_piece(
     room: &mut [u8],
     out: &mut [u8],
 ) -> Replay
-    requires { ⌜ (length (now line) ≤ length (now room)) × (lineRoom ≤ length (now out)) ⌝ }
+    requires { ⌜ (length (now line) ≤ length (now room)) × (lineRoom ≤ length (now out)) × (length (now line) ≤ mostRead) ⌝ }
     ensures { λ r. ⌜ (r .going ≡ true → readingOf r (now (line .exit)) ≡ read (length (now (line .entry))) (now (piece .entry)) (readingOf p (now (line .entry)))) ⌝ }
 {
     let mut q = p;
@@ -154,7 +154,7 @@ fn read_piece(
 // Reads a piece of the script. At its end the last line is played, and then, or if reading fails, it does not go on. Which
 // bytes the piece has is open, and if it does not go on, what is left.
 fn turn(p: Replay, line: &mut [u8], states: bool, room: &mut [u8], out: &mut [u8]) -> Replay
-    requires { ⌜ (length (now line) ≤ length (now room)) × (lineRoom ≤ length (now out)) ⌝ }
+    requires { ⌜ (length (now line) ≤ length (now room)) × (lineRoom ≤ length (now out)) × (length (now line) ≤ mostRead) ⌝ }
     ensures { λ r. ⌜ (r .going ≡ true → ReadOn (length (now (line .entry))) (readingOf p (now (line .entry))) (readingOf r (now (line .exit)))) ⌝ }
 {
     let mut piece = io::buffer();
@@ -174,7 +174,7 @@ fn turn(p: Replay, line: &mut [u8], states: bool, room: &mut [u8], out: &mut [u8
 }
 
 fn run(states: bool, line: &mut [u8], room: &mut [u8], out: &mut [u8])
-    requires { ⌜ (length (now line) ≤ length (now room)) × (lineRoom ≤ length (now out)) ⌝ }
+    requires { ⌜ (length (now line) ≤ length (now room)) × (lineRoom ≤ length (now out)) × (length (now line) ≤ mostRead) ⌝ }
 {
     let first = replay_player::first_host();
     let mut p = Replay {

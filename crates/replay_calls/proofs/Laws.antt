@@ -62,7 +62,7 @@ longs = 9
 -- the line of a row, by its kind and its place there
 module _ (i : Items) (b : Bytes) (n : ℕ) where
   abbrev fromLong : List Line
-  fromLong = map asking (longQueries i b) ++ otherLines i
+  fromLong = map asking (longQueries i b) ++ otherLines i b
 
   abbrev fromPlain : List Line
   fromPlain = map asking (plainQueries i b) ++ fromLong
@@ -94,12 +94,12 @@ module _ (i : Items) (b : Bytes) (n : ℕ) where
             behind call (phoneCalls i b) fromCan n h
             ∙ behind call (canCalls i b) fromPlain (n - phones) k
             ∙ behind asking (plainQueries i b) fromLong (n - phones - cans) l
-            ∙ here asking (longQueries i b) (otherLines i) (n - phones - cans - plains) canReadWriteApproval t
+            ∙ here asking (longQueries i b) (otherLines i b) (n - phones - cans - plains) canReadWriteApproval t
 
-        pub line-other : longs ≤ n - phones - cans - plains → lineOf n i b ≡ otherLine (n - phones - cans - plains - longs) i
+        pub line-other : longs ≤ n - phones - cans - plains → lineOf n i b ≡ otherLine (n - phones - cans - plains - longs) i b
         unfolding lineOf lines phoneCalls canCalls plainQueries longQueries otherLine
         line-other t =
             behind call (phoneCalls i b) fromCan n h
             ∙ behind call (canCalls i b) fromPlain (n - phones) k
             ∙ behind asking (plainQueries i b) fromLong (n - phones - cans) l
-            ∙ behind asking (longQueries i b) (otherLines i) (n - phones - cans - plains) t
+            ∙ behind asking (longQueries i b) (otherLines i b) (n - phones - cans - plains) t

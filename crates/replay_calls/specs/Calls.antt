@@ -1,5 +1,6 @@
 -- The call that a line makes, by the number of its name and by its items. Each list is in the order of the rows of
 -- replay_names/specs/Names.antt.
+use mathlib.Core.Bool.{Bool}
 use mathlib.Core.List.{List, [], _∷_, _++_, map}
 use Prim.Native.Nat.{ℕ}
 use lib.ListN.{getD}
@@ -110,21 +111,26 @@ longQuery n i b = getD (longQueries i b) n canReadWriteApproval
 
 -- ---- every line
 
--- a call of the gate; the two lines that are no calls; or a line that has no name
+-- a call of the gate; a line that is no call; or one that has no name
 pub data Line : Type 0 where
   call : Call → Line
   counters : (next relocks : ℕ) → Line
+  convert : (saved : List ℕ) (two : Bool) (out : List ℕ) → Line
   state unknown : Line
 
 abbrev pub asking : Query → Line
 asking q = call (ask q)
 
--- the two that are no calls
-unfoldable pub otherLines : Items → List Line
-otherLines i = counters (i .numbers .next .value) (i .numbers .relocks .value) ∷ state ∷ []
+-- those that are no calls
+unfoldable pub otherLines : Items → Bytes → List Line
+otherLines i b =
+    counters (i .numbers .next .value) (i .numbers .relocks .value)
+    ∷ state
+    ∷ convert (b .stored) (i .switches .target .on) (b .output)
+    ∷ []
 
-unfoldable pub otherLine : ℕ → Items → Line
-otherLine n i = getD (otherLines i) n unknown
+unfoldable pub otherLine : ℕ → Items → Bytes → Line
+otherLine n i b = getD (otherLines i b) n unknown
 
 -- a line for each row
 unfoldable pub lines : Items → Bytes → List Line
@@ -133,7 +139,7 @@ lines i b =
     ++ (map call (canCalls i b)
     ++ (map asking (plainQueries i b)
     ++ (map asking (longQueries i b)
-    ++ otherLines i)))
+    ++ otherLines i b)))
 
 unfoldable pub lineOf : ℕ → Items → Bytes → Line
 lineOf n i b = getD (lines i b) n unknown

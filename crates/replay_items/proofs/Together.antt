@@ -3,7 +3,7 @@
 use mathlib.Core.Path.{_≡_, refl, ap, sym}
 use mathlib.Core.Bool.{Bool, true, false, cond, false≢true}
 use mathlib.Core.List.{List, [], _∷_}
-use Prim.Native.Nat.{ℕ, zero, suc, _+_, _≤_, _<_}
+use Prim.Native.Nat.{ℕ, zero, suc, _+_, _*_, _≤_, _<_}
 use native.Mathlib.Omega.{arith}
 use borrow.Author.Tests.{eq-eqb, eqb-true, ltb-true}
 use lib.Dec.{eqb, ltb}
@@ -168,16 +168,16 @@ unfolding lengths
 in-words ks [] h = omega (arith, no-words ks)
 in-words ks (w ∷ ws) h = omega (arith, more-words ks w ws h, one-hit (length w) (take (before 61 w) w) ks h, in-words ks ws h)
 
--- ---- the seven
+-- ---- the eight
 
 byteKeys : List (List ℕ)
-byteKeys = ascii "phone" ∷ ascii "method" ∷ ascii "random" ∷ ascii "code" ∷ ascii "record" ∷ ascii "fingerprint" ∷ ascii "owner" ∷ []
+byteKeys = ascii "phone" ∷ ascii "method" ∷ ascii "random" ∷ ascii "code" ∷ ascii "record" ∷ ascii "fingerprint" ∷ ascii "owner" ∷ ascii "output" ∷ []
 
 keys-apart : Apart byteKeys
 unfolding Apart Plain byteKeys among before sameBytes
-keys-apart = (refl, refl, (refl, refl, (refl, refl, (refl, refl, (refl, refl, (refl, refl, (refl, refl, tt)))))))
+keys-apart = (refl, refl, (refl, refl, (refl, refl, (refl, refl, (refl, refl, (refl, refl, (refl, refl, (refl, refl, tt))))))))
 
-pub sizes : (line : List ℕ) → length (bytesAt HexOrText (ascii "phone") line) + length (bytesAt HexOrText (ascii "method") line) + length (bytesAt Hex (ascii "random") line) + length (bytesAt HexOrText (ascii "code") line) + length (bytesAt Hex (ascii "record") line) + length (bytesAt Hex (ascii "fingerprint") line) + length (bytesAt HexOrText (ascii "owner") line) ≤ length line
+pub sizes : (line : List ℕ) → length (bytesAt HexOrText (ascii "phone") line) + length (bytesAt HexOrText (ascii "method") line) + length (bytesAt Hex (ascii "random") line) + length (bytesAt HexOrText (ascii "code") line) + length (bytesAt Hex (ascii "record") line) + length (bytesAt Hex (ascii "fingerprint") line) + length (bytesAt HexOrText (ascii "owner") line) + length (bytesAt Hex (ascii "output") line) ≤ length line
 unfolding together byteKeys
 sizes line =
     omega (
@@ -191,4 +191,25 @@ sizes line =
       bytes-length Hex (ascii "record") line,
       bytes-length Hex (ascii "fingerprint") line,
       bytes-length HexOrText (ascii "owner") line,
+      bytes-length Hex (ascii "output") line,
     )
+
+-- ---- hexadecimal digits alone
+
+half-by : (v : List ℕ) (t : Bool) → 2 * length (cond t (asBytes Hex v) []) ≤ length v
+unfolding asBytes
+half-by v true = omega (arith, pairs-length v)
+half-by v false = omega arith
+
+half-only : (vs : List (List ℕ)) → 2 * length (bytesIn Hex (only vs)) ≤ lengths vs
+unfolding lengths
+half-only [] = omega arith
+half-only (v ∷ []) = omega (arith, half-by v (isBytes Hex v))
+half-only (v ∷ w ∷ vs) = omega arith
+
+-- the lent bytes are at most half of the line
+pub output-half : (line : List ℕ) → 2 * length (bytesAt Hex (ascii "output") line) ≤ length line
+unfolding bytesAt itemOf together Apart Plain among before
+output-half line =
+    let ws = itemsOf line in
+    omega (arith, half-only (valuesOf (ascii "output") ws), in-words (ascii "output" ∷ []) ws (refl, refl, tt), items-lengths line)

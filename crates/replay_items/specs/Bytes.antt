@@ -44,6 +44,7 @@ hasAt line = record {
   stored = hasBytes Hex (ascii "record") line;
   fingerprint = hasBytes Hex (ascii "fingerprint") line;
   owner = hasBytes HexOrText (ascii "owner") line;
+  output = hasBytes Hex (ascii "output") line;
 }
 
 -- the byte values of a line
@@ -55,6 +56,7 @@ pub record Bytes : Type 0 where
   pub stored : List ℕ
   pub fingerprint : List ℕ
   pub owner : List ℕ
+  pub output : List ℕ
 
 unfoldable pub bytesOf : List ℕ → Bytes
 bytesOf line = record {
@@ -65,6 +67,7 @@ bytesOf line = record {
   stored = bytesAt Hex (ascii "record") line;
   fingerprint = bytesAt Hex (ascii "fingerprint") line;
   owner = bytesAt HexOrText (ascii "owner") line;
+  output = bytesAt Hex (ascii "output") line;
 }
 
 -- ---- where they lie
@@ -82,11 +85,12 @@ lentBytes p room = record {
   stored = lentAt (p .code) (p .stored) room;
   fingerprint = lentAt (p .stored) (p .fingerprint) room;
   owner = lentAt (p .fingerprint) (p .owner) room;
+  output = lentAt (p .owner) (p .output) room;
 }
 
 -- the byte values one behind the other
 unfoldable pub joined : Bytes → List ℕ
-joined b = b .phone ++ b .method ++ b .random ++ b .code ++ b .stored ++ b .fingerprint ++ b .owner
+joined b = b .phone ++ b .method ++ b .random ++ b .code ++ b .stored ++ b .fingerprint ++ b .owner ++ b .output
 
 -- where each ends then
 unfoldable pub endsOf : Bytes → Ends
@@ -97,7 +101,8 @@ endsOf b = record {
   code = length (b .phone ++ b .method ++ b .random ++ b .code);
   stored = length (b .phone ++ b .method ++ b .random ++ b .code ++ b .stored);
   fingerprint = length (b .phone ++ b .method ++ b .random ++ b .code ++ b .stored ++ b .fingerprint);
-  owner = length (joined b);
+  owner = length (b .phone ++ b .method ++ b .random ++ b .code ++ b .stored ++ b .fingerprint ++ b .owner);
+  output = length (joined b);
 }
 
 -- one value laid down in memory from a place on

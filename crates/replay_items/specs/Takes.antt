@@ -31,6 +31,7 @@ found i =
     ∷ 1 if i .has .code
     ∷ 1 if i .has .stored
     ∷ 1 if i .has .fingerprint
+    ∷ 1 if i .has .output
     ∷ 1 if i .numbers .clock .ok
     ∷ 1 if i .numbers .session .ok
     ∷ 1 if i .numbers .bus .ok
@@ -41,6 +42,7 @@ found i =
     ∷ 1 if i .switches .unlocked .ok
     ∷ 1 if i .switches .enabled .ok
     ∷ 1 if i .switches .on .ok
+    ∷ 1 if i .switches .target .ok
     ∷ 1 if i .car .ok
     ∷ 1 if (i .nobody || i .has .phone)
     ∷ 5 if i .frame .ok

@@ -70,7 +70,12 @@ unfoldable pub switchAt : List ℕ → List ℕ → Switch
 switchAt key line = switchOf (theFlag (itemOf key line))
 
 unfoldable pub switchesAt : List ℕ → Switches
-switchesAt line = record { unlocked = switchAt (ascii "unlocked") line; enabled = switchAt (ascii "enabled") line; on = switchAt (ascii "on") line }
+switchesAt line = record {
+  unlocked = switchAt (ascii "unlocked") line;
+  enabled = switchAt (ascii "enabled") line;
+  on = switchAt (ascii "on") line;
+  target = switchAt (ascii "target") line;
+}
 
 -- ---- a frame to send and its class
 

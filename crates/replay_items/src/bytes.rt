@@ -47,6 +47,7 @@ pub fn lay_all(line: &[u8], room: &mut [u8]) -> LaidValues
     let e = lay(line, b"record", Written::Hex, room, d.end);
     let f = lay(line, b"fingerprint", Written::Hex, room, e.end);
     let g = lay(line, b"owner", Written::HexOrText, room, f.end);
+    let h = lay(line, b"output", Written::Hex, room, g.end);
     let has = Has {
         phone: a.ok,
         method: b.ok,
@@ -55,6 +56,7 @@ pub fn lay_all(line: &[u8], room: &mut [u8]) -> LaidValues
         stored: e.ok,
         fingerprint: f.ok,
         owner: g.ok,
+        output: h.ok,
     };
     let ends = Ends {
         phone: a.end,
@@ -64,6 +66,7 @@ pub fn lay_all(line: &[u8], room: &mut [u8]) -> LaidValues
         stored: e.end,
         fingerprint: f.end,
         owner: g.end,
+        output: h.end,
     };
     LaidValues { has, ends }
 }

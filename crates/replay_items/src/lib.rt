@@ -67,6 +67,7 @@ pub struct Switches {
     pub unlocked: Switch,
     pub enabled: Switch,
     pub on: Switch,
+    pub target: Switch,
 }
 
 // Which byte values there are.
@@ -78,6 +79,7 @@ pub struct Has {
     pub stored: bool,
     pub fingerprint: bool,
     pub owner: bool,
+    pub output: bool,
 }
 
 // Where each byte value ends in lent memory; it begins where the one before it ends, the first at 0.
@@ -89,6 +91,7 @@ pub struct Ends {
     pub stored: usize,
     pub fingerprint: usize,
     pub owner: usize,
+    pub output: usize,
 }
 
 // One byte value that was laid down: whether there is one, and the place after it.

@@ -56,7 +56,7 @@ fn class_items(i: Items) -> usize
 }
 
 // Of each key of the table, in its order, whether its items are there and of their form.
-fn right(i: Items) -> [bool; 23]
+fn right(i: Items) -> [bool; 25]
     ensures { λ r. ⌜ r ≡ rightOf i ⌝ }
 {
     let h = i.has;
@@ -71,6 +71,7 @@ fn right(i: Items) -> [bool; 23]
         h.code,
         h.stored,
         h.fingerprint,
+        h.output,
         n.clock.ok,
         n.session.ok,
         n.bus.ok,
@@ -81,6 +82,7 @@ fn right(i: Items) -> [bool; 23]
         s.unlocked.ok,
         s.enabled.ok,
         s.on.ok,
+        s.target.ok,
         i.car.ok,
         peer,
         i.frame.ok,
@@ -92,13 +94,15 @@ fn right(i: Items) -> [bool; 23]
 }
 
 // And how many they are.
-fn many(i: Items) -> [usize; 23]
+fn many(i: Items) -> [usize; 25]
     ensures { λ r. ⌜ r ≡ manyOf i ⌝ }
 {
     let class = class_items(i);
     let methods = i.methods.count;
     let frames = i.frames.count;
     [
+        1,
+        1,
         1,
         1,
         1,

@@ -189,9 +189,11 @@ pub fn switches(line: &[u8]) -> Switches
     let unlocked = switch(line, b"unlocked");
     let enabled = switch(line, b"enabled");
     let on = switch(line, b"on");
+    let target = switch(line, b"target");
     Switches {
         unlocked,
         enabled,
         on,
+        target,
     }
 }

@@ -4,7 +4,7 @@ use mathlib.Core.List.{List, [], _∷_}
 use Prim.Native.Nat.{ℕ, _+_, _%_, _^_, _≤_, _<_}
 use native.Mathlib.Numerals.{add-one}
 use native.Mathlib.Omega.{arith}
-use lib.ListN.{length, take, drop, getD, replicate, drop-of-length-le}
+use lib.ListN.{length, take, drop, getD, replicate, drop-of-length-le, length-replicate}
 use lib.Seq.{drop-cons}
 use Rattle.arrays.specs.Arrays.{put}
 use Rattle.arrays.proofs.Laws.{put-take}
@@ -25,8 +25,8 @@ pub digits-fit : (n : ℕ) → n < 2 ^ 64 → length (decimalOf n) ≤ 20
 digits-fit n h = decimal-length 19 n (omega arith)
 
 -- a text laid down in front, read back
-pub front : (d : List ℕ) (k : ℕ) (s : List ℕ) → length s ≤ 20 → k ≡ 0 + length s → d ≡ put (replicate 20 0) 0 s → take k d ≡ s
-front d k s h e f = rw (e, f) (put-take (replicate 20 0) 0 s (omega arith))
+pub front : (n : ℕ) (d : List ℕ) (k : ℕ) (s : List ℕ) → length s ≤ n → k ≡ 0 + length s → d ≡ put (replicate n 0) 0 s → take k d ≡ s
+front n d k s h e f = rw (e, f) (put-take (replicate n 0) 0 s (rw length-replicate (omega arith)))
 
 pub mod-twice : (n : ℕ) → n % 16 % 16 ≡ n % 16
 mod-twice n = omega arith

@@ -62,6 +62,8 @@ keyNames =
     ∷ " attempts="
     ∷ " relocks="
     ∷ " marks="
+    ∷ " room="
+    ∷ " output="
     ∷ []
 
 unfoldable pub wordNames : List String
@@ -96,6 +98,8 @@ wordNames =
     ∷ "24/BadFrame"
     ∷ "25/BadSettings"
     ∷ "28/CarTwice"
+    ∷ "29/ManyCars"
+    ∷ "30/ShortOutput"
     ∷ "code"
     ∷ "action"
     ∷ "in_progress"

@@ -1,6 +1,6 @@
 // The keys of the fields, a row to a line, and the place of each.
 
-pub const KEYS: [u8; 586] = *b" answer=
+pub const KEYS: [u8; 602] = *b" answer=
  count=
  number=
  reason=
@@ -54,6 +54,8 @@ pub const KEYS: [u8; 586] = *b" answer=
  attempts=
  relocks=
  marks=
+ room=
+ output=
 ";
 
 pub const ANSWER: usize = 0;
@@ -163,3 +165,7 @@ pub const ATTEMPTS: usize = 51;
 pub const RELOCKS: usize = 52;
 
 pub const MARKS: usize = 53;
+
+pub const ROOM: usize = 54;
+
+pub const OUTPUT: usize = 55;

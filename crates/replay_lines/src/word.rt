@@ -1,7 +1,7 @@
 // The words that are values of fields, a row to a line. Document 01's refusal of number n stands at place n + 3, and behind them those of
 // document 02 by their numbers.
 
-pub const WORDS: [u8; 527] = *b"ok
+pub const WORDS: [u8; 554] = *b"ok
 yes
 no
 none
@@ -31,6 +31,8 @@ none
 24/BadFrame
 25/BadSettings
 28/CarTwice
+29/ManyCars
+30/ShortOutput
 code
 action
 in_progress
@@ -50,32 +52,32 @@ never
 
 pub const NONE: usize = 3;
 
-pub const CODE: usize = 30;
+pub const CODE: usize = 32;
 
-pub const ACTION: usize = 31;
+pub const ACTION: usize = 33;
 
-pub const IN_PROGRESS: usize = 32;
+pub const IN_PROGRESS: usize = 34;
 
-pub const SUCCEEDED: usize = 33;
+pub const SUCCEEDED: usize = 35;
 
-pub const FAILED: usize = 34;
+pub const FAILED: usize = 36;
 
-pub const CANCELLED: usize = 35;
+pub const CANCELLED: usize = 37;
 
-pub const TIMED_OUT: usize = 36;
+pub const TIMED_OUT: usize = 38;
 
-pub const NOT_APPROVED: usize = 37;
+pub const NOT_APPROVED: usize = 39;
 
-pub const AWAITING_CAR: usize = 38;
+pub const AWAITING_CAR: usize = 40;
 
-pub const APPROVED: usize = 39;
+pub const APPROVED: usize = 41;
 
-pub const OTHER_CAR: usize = 40;
+pub const OTHER_CAR: usize = 42;
 
-pub const NOT_BONDED: usize = 41;
+pub const NOT_BONDED: usize = 43;
 
-pub const BONDED: usize = 42;
+pub const BONDED: usize = 44;
 
-pub const VALIDATED: usize = 43;
+pub const VALIDATED: usize = 45;
 
-pub const NEVER: usize = 44;
+pub const NEVER: usize = 46;

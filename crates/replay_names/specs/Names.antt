@@ -9,7 +9,7 @@ use Rattle.ascii.specs.Ascii.{ascii}
 use Rattle.word_table.specs.Words.{linesOf, restOf, placeIn}
 
 -- A row to a name: the calls of the phones, from `new` on, and those of the bike, from `approve_can_read_write` on; the queries with a
--- plain answer, from `is_can_read_only` on, and those with a longer one, from `can_read_write_approval` on; the two lines that are no
+-- plain answer, from `is_can_read_only` on, and those with a longer one, from `can_read_write_approval` on; the lines that are no
 -- calls. replay_calls/specs/Calls.antt has what each makes, in the same order.
 unfoldable pub table : List String
 table =
@@ -72,6 +72,7 @@ table =
     ∷ "encode_phone_validations"
     ∷ "set_counters next_session relocks"
     ∷ "state"
+    ∷ "convert_phone_validations record target output"
     ∷ []
 
 -- What a row wants: one item of this key. But `peer` is a phone, which may be `none`; `frame` is frame_bus, kind, id, dlc and
@@ -85,6 +86,7 @@ keyNames =
     ∷ "code"
     ∷ "record"
     ∷ "fingerprint"
+    ∷ "output"
     ∷ "now"
     ∷ "session"
     ∷ "bus"
@@ -95,6 +97,7 @@ keyNames =
     ∷ "unlocked"
     ∷ "enabled"
     ∷ "on"
+    ∷ "target"
     ∷ "car"
     ∷ "peer"
     ∷ "frame"

@@ -8,7 +8,7 @@ ghost use Rattle.word_table.specs.Words.{linesOf, restOf, placeIn};
 ghost use Rattle.replay_names.specs.Names as Names;
 ghost use Rattle.replay_names.specs.Names.{rows, keys, exactly, wanted};
 
-const ROWS: [u8; 1469] = *b"new settings methods
+const ROWS: [u8; 1516] = *b"new settings methods
 start_validation phone method now random
 submit_validation_code phone code now
 cancel_validation phone now
@@ -67,6 +67,7 @@ current_validation_challenge
 encode_phone_validations
 set_counters next_session relocks
 state
+convert_phone_validations record target output
 ";
 
 // The number of a name, or the number of rows.
@@ -80,15 +81,16 @@ pub fn name_of(word: &[u8]) -> usize
 pub fn is_name(name: usize) -> bool
     ensures { λ r. ⌜ r ≡ ltb name (length rows) ⌝ }
 {
-    name < 59
+    name < 60
 }
 
-const KEYS: [u8; 159] = *b"phone
+const KEYS: [u8; 173] = *b"phone
 method
 random
 code
 record
 fingerprint
+output
 now
 session
 bus
@@ -99,6 +101,7 @@ relocks
 unlocked
 enabled
 on
+target
 car
 peer
 frame
@@ -108,26 +111,26 @@ methods
 frames
 ";
 
-fn is_right(right: [bool; 23], k: usize) -> bool
+fn is_right(right: [bool; 25], k: usize) -> bool
     ensures { λ r. ⌜ r ≡ getD right k false ⌝ }
 {
-    if k < 23 {
+    if k < 25 {
         return right[k];
     }
     false
 }
 
-fn how_many(many: [usize; 23], k: usize) -> usize
+fn how_many(many: [usize; 25], k: usize) -> usize
     ensures { λ r. ⌜ r ≡ getD many k 0 ⌝ }
 {
-    if k < 23 {
+    if k < 25 {
         return many[k];
     }
     0
 }
 
 // Whether the items that a row's words behind its name say are right, and no other is there.
-fn has_all(row: &[u8], keys: &[u8], right: [bool; 23], many: [usize; 23], count: usize) -> bool
+fn has_all(row: &[u8], keys: &[u8], right: [bool; 25], many: [usize; 25], count: usize) -> bool
     ensures { λ r. ⌜ r ≡ exactly (linesOf 10 (now (keys .entry))) right many count (linesOf 32 (restOf (now (row .entry)))) ⌝ }
 {
     let mut left = count;
@@ -154,8 +157,8 @@ fn row_takes(
     rows: &[u8],
     keys: &[u8],
     name: usize,
-    right: [bool; 23],
-    many: [usize; 23],
+    right: [bool; 25],
+    many: [usize; 25],
     count: usize,
 ) -> bool
     ensures { λ r. ⌜ r ≡ wanted (linesOf 10 (now (rows .entry))) (linesOf 10 (now (keys .entry))) name right many count ⌝ }
@@ -166,7 +169,7 @@ fn row_takes(
     has_all(&rows[start..end], keys, right, many, count)
 }
 
-fn name_takes(name: usize, right: [bool; 23], many: [usize; 23], count: usize) -> bool
+fn name_takes(name: usize, right: [bool; 25], many: [usize; 25], count: usize) -> bool
     ensures { λ r. ⌜ r ≡ wanted rows keys name right many count ⌝ }
 {
     row_takes(&ROWS, &KEYS, name, right, many, count)
@@ -174,7 +177,7 @@ fn name_takes(name: usize, right: [bool; 23], many: [usize; 23], count: usize) -
 
 // Whether these are the items that a name wants: `right` says of each key whether its items are there and of their form, `many`
 // how many they are, `count` how many items there are at all.
-pub fn takes(name: usize, right: [bool; 23], many: [usize; 23], count: usize) -> bool
+pub fn takes(name: usize, right: [bool; 25], many: [usize; 25], count: usize) -> bool
     ensures { λ r. ⌜ r ≡ Names.takes name right many count ⌝ }
 {
     if is_name(name) {

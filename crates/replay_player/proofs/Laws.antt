@@ -7,7 +7,7 @@ use native.Mathlib.Omega.{arith}
 use lib.Dec.{eqb}
 use lib.ListN.{length, take, getD}
 use lib.Seq.{length-take-le}
-use Rattle.replay_calls.specs.Calls.{Line, call, counters, state, unknown, lineOf}
+use Rattle.replay_calls.specs.Calls.{Line, call, counters, state, convert, unknown, lineOf}
 use Rattle.replay_items.specs.Bytes.{Bytes, bytesOf}
 use Rattle.replay_items.specs.Items.{readOf}
 use Rattle.replay_items.specs.Takes.{takes}
@@ -42,6 +42,7 @@ unfolding laid
 ran-host (call c) h p q = refl
 ran-host (counters next relocks) h p q = refl
 ran-host state h p q = refl
+ran-host (convert saved two out) h p q = refl
 ran-host unknown h p q = refl
 
 played-by : (t : Bool) (l : Line) (name : ℕ) (h : Host) (n : ℕ) (w : List ℕ) (p q : Page)

@@ -12,10 +12,12 @@ use Rattle.arrays.specs.Arrays.{sameBytes}
 use Rattle.arrays.proofs.Laws.{both, same-bytes-is}
 use Rattle.ascii.specs.Ascii.{ascii}
 use Rattle.replay_calls.specs.Calls.{lineOf}
+use Rattle.replay_conversion.specs.Conversion.{mostLent}
 use Rattle.replay_items.specs.Bytes.{Bytes, bytesOf}
 use Rattle.replay_items.specs.Items.{readOf}
 use Rattle.replay_items.specs.Takes.{takes}
 use Rattle.replay_items.specs.declared.Items.{Items}
+use Rattle.replay_items.proofs.Together.{output-half}
 use Rattle.replay_lines.specs.Page.{Page}
 use Rattle.replay_lines.specs.Room.{Within}
 use Rattle.replay_lines.proofs.AnswerRoom.{Owned}
@@ -30,7 +32,7 @@ use Rattle.replay_steps.specs.declared.Played.{Played}
 use Rattle.replay_steps.proofs.Played as Played
 use Rattle.state.specs.declared.Gate.{Gate}
 use Rattle.word_table.specs.Words.{before, nameOf, placeIn}
-use Rattle.replay_player.specs.Played.{begun, errorOf, failed, ended, playedAs, played, stateLine, stated, withState, playedRoom, PlayedFits, lineRoom, EveryLineFits, tooLong}
+use Rattle.replay_player.specs.Played.{begun, errorOf, failed, ended, playedAs, played, stateLine, stated, withState, mostRead, playedRoom, PlayedFits, lineRoom, EveryLineFits, tooLong}
 use Rattle.replay_player.proofs.Laws.{played-host}
 
 -- ---- the name of a line that is a call
@@ -55,6 +57,11 @@ unfolding rows table nameOf before
 names-short = refl
 
 -- ---- a line
+
+-- what it lends
+pub lent-most : (line : List ℕ) (b : Bytes) → b ≡ bytesOf line → length line ≤ mostRead → length (b .output) ≤ mostLent
+unfolding bytesOf
+lent-most line b e h = rw e (omega (arith, output-half line))
 
 begun-in : (n : ℕ) (w : List ℕ) → n < 2 ^ 64 → Within (31 + length w) (begun n w)
 unfolding begun

@@ -64,6 +64,10 @@ withState states n t = cond states (cond (t .called) (stated n t) t) t
 
 -- ---- room
 
+-- the most bytes that a line has
+abbrev pub mostRead : ℕ
+mostRead = 16384
+
 -- a line by itself: its number and its name before what it gives, and the end of the line
 abbrev pub playedRoom : ℕ
 playedRoom = turnRoom + 63

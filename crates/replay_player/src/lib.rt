@@ -10,11 +10,12 @@ ghost use mathlib.Core.Path.{_≡_};
 ghost use Prim.Native.Nat.{_≤_};
 ghost use lib.ListN.{length};
 ghost use Rattle.arrays.specs.Arrays.{put};
+ghost use Rattle.replay_conversion.specs.Conversion.{mostLent};
 ghost use Rattle.replay_items.specs.Bytes.{lentBytes, bytesOf, joined};
 ghost use Rattle.replay_lines.specs.Page.{page, text};
 ghost use Rattle.replay_calls.specs.Calls.{lineOf};
 ghost use Rattle.replay_steps.specs.Turns.{turnOf, ran, TurnFits};
-ghost use Rattle.replay_player.specs.Played.{begun, errorOf, failed, ended, played, stateLine, withState, PlayedFits, EveryLineFits, FromBadNew, passedOver, tooLong};
+ghost use Rattle.replay_player.specs.Played.{begun, errorOf, failed, ended, played, stateLine, withState, PlayedFits, mostRead, EveryLineFits, FromBadNew, passedOver, tooLong};
 
 // line=N call=WORD
 fn put_begin(out: &mut [u8], at: usize, number: u64, word: &[u8]) -> usize
@@ -46,6 +47,7 @@ fn play_call(
     room: &[u8],
     out: &mut [u8],
 ) -> Played
+    requires { ⌜ length (lentBytes p (now room) .output) ≤ mostLent ⌝ }
     ensures { λ r. ⌜ (turnOf r (now (out .exit)) ≡ ended (ran (lineOf name i (lentBytes p (now (room .entry)))) h (begun number (now (word .entry)) (page (now (out .entry)) 0)))) × TurnFits (ran (lineOf name i (lentBytes p (now (room .entry)))) h) ⌝ }
 {
     let k = put_begin(out, 0, number, word);
@@ -65,7 +67,7 @@ fn play_error(h: Host, number: u64, name: usize, out: &mut [u8]) -> Played
 }
 
 fn play_line(h: Host, number: u64, line: &[u8], room: &mut [u8], out: &mut [u8]) -> Played
-    requires { ⌜ length (now line) ≤ length (now room) ⌝ }
+    requires { ⌜ (length (now line) ≤ length (now room)) × (length (now line) ≤ mostRead) ⌝ }
     ensures { λ r. ⌜ (turnOf r (now (out .exit)) ≡ played h number (now (line .entry)) (page (now (out .entry)) 0)) × (now (room .exit) ≡ put (now (room .entry)) 0 (joined (bytesOf (now (line .entry))))) × PlayedFits h number (now (line .entry)) ⌝ }
 {
     let e = replay_script::name_end(line);
@@ -97,7 +99,7 @@ pub fn play(
     room: &mut [u8],
     out: &mut [u8],
 ) -> Played
-    requires { ⌜ length (now line) ≤ length (now room) ⌝ }
+    requires { ⌜ (length (now line) ≤ length (now room)) × (length (now line) ≤ mostRead) ⌝ }
     ensures { λ r. ⌜ (turnOf r (now (out .exit)) ≡ withState states number (played h number (now (line .entry)) (page (now (out .entry)) 0))) × (now (room .exit) ≡ put (now (room .entry)) 0 (joined (bytesOf (now (line .entry))))) × EveryLineFits states h number (now (line .entry)) ⌝ }
 {
     let mut r = play_line(h, number, line, room, out);

@@ -9,6 +9,7 @@ use lib.ListN.{length}
 use mir.Val.{Val}
 use borrow.Author.Needs.{needs}
 use Rattle.ascii.specs.Ascii.{ascii}
+use Rattle.state.specs.Replies.{noSignals}
 use Rattle.state.specs.declared.ApprovalSignal.{ApprovalSignal}
 use Rattle.state.specs.declared.Challenge.{Challenge}
 use Rattle.state.specs.declared.ChallengeSignal.{ChallengeSignal}
@@ -81,3 +82,7 @@ listed-in from s vs h =
 pub signals-in : (s : Signals) (vs : List Val) → Owned Signals.the-field s vs → Within 8872 (signals s)
 unfolding signals
 signals-in s vs h = record { fits = λ p r. (text-in (ascii " signals=") ⊕ listed-in _ s vs h) .fits p r }
+
+pub no-signals-in : Within 13 (signals noSignals)
+unfolding signals listed raised readOnly approval validations challenge noSignals
+no-signals-in = record { fits = λ p r. (text-in (ascii " signals=") ⊕ ended-in _) .fits p r }

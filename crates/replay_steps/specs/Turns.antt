@@ -2,7 +2,9 @@
 use mathlib.Core.Bool.{Bool, true, false}
 use mathlib.Core.List.{List}
 use Prim.Native.Nat.{ℕ}
+use Rattle.converter.specs.Convert.{converted}
 use Rattle.definition.specs.Gate.{Given, given, step}
+use Rattle.replay_conversion.specs.Conversion.{conversion}
 use Rattle.replay_lines.specs.Page.{Page, page, _▸_}
 use Rattle.replay_lines.specs.Room.{Within}
 use Rattle.replay_signals.specs.Signals.{signals}
@@ -13,7 +15,7 @@ use Rattle.state.specs.declared.Answer.{Answer}
 use Rattle.state.specs.declared.Answer.the-variants.{Done}
 use Rattle.state.specs.declared.Gate.{Gate}
 use Rattle.state.specs.declared.Outcome.{Outcome}
-use Rattle.replay_calls.specs.Calls.{Line, call, counters, state, unknown}
+use Rattle.replay_calls.specs.Calls.{Line, call, counters, state, convert, unknown}
 use Rattle.replay_queries.specs.Shown.{shown}
 use Rattle.replay_steps.specs.declared.Host.{Host}
 use Rattle.replay_steps.specs.declared.Played.{Played}
@@ -46,7 +48,7 @@ laid h d p = record { host = withGate h (d .gate); page = p ▸ shown (d .answer
 abbrev pub answerAlone : Gate → Answer → Outcome
 answerAlone g a = record { answer = a; signals = noSignals; gate = g }
 
--- what stands behind the answer of a query
+-- what stands behind the answer of a query, and of any line that leaves the host as it is
 abbrev pub calm : Host → Page → Turn
 calm h p = record { host = h; page = signals noSignals p; called = true }
 
@@ -62,13 +64,14 @@ abbrev pub ran : Line → Host → Page → Turn
 ran (call c) h p = laid h (step (h .gate) c) p
 ran (counters next relocks) h p = laid h (given (answerAlone (withCounters (h .gate) next relocks) Done)) p
 ran state h p = record { host = h; page = Whole.gate (h .gate) p; called = false }
+ran (convert saved two out) h p = calm h (conversion (converted saved two out) p)
 ran unknown h p = record { host = h; page = p; called = false }
 
 -- ---- room
 
--- room for the signals, and for what stands behind the name of a line: an answer with its signals, or the whole state
-abbrev pub signalRoom : ℕ
-signalRoom = 11712
+-- room for no signals, and for what stands behind the name of a line: an answer with its signals, or the whole state
+abbrev pub calmRoom : ℕ
+calmRoom = 13
 
 abbrev pub turnRoom : ℕ
 turnRoom = 24000

@@ -6,14 +6,17 @@ use state::Answer;
 use state::Gate;
 use state::Outcome;
 ghost use mathlib.Core.Path.{_≡_};
+ghost use Prim.Native.Nat.{_≤_};
+ghost use lib.ListN.{length};
 ghost use Rattle.definition.specs.Gate.{given};
+ghost use Rattle.replay_conversion.specs.Conversion.{mostLent};
 ghost use Rattle.replay_items.specs.Bytes.{lentBytes};
 ghost use Rattle.replay_lines.specs.Page.{page};
 ghost use Rattle.replay_lines.specs.Room.{Within};
 ghost use Rattle.replay_signals.specs.Signals.{signals};
 ghost use Rattle.state.specs.Replies.{noSignals};
 ghost use Rattle.replay_calls.specs.Calls.{lineOf, otherLine};
-ghost use Rattle.replay_steps.specs.Turns.{turnOf, withGate, answerAlone, laid, calm, withCounters, ran, passed, signalRoom, TurnFits};
+ghost use Rattle.replay_steps.specs.Turns.{turnOf, withGate, answerAlone, laid, calm, withCounters, ran, passed, calmRoom, TurnFits};
 
 // What the host of a script holds from line to line.
 pub struct Host {
@@ -63,9 +66,9 @@ fn put_outcome(h: Host, o: Outcome, out: &mut [u8], at: usize) -> Played
     }
 }
 
-// What stands behind the answer of a query.
+// What stands behind the answer of a query, and of any line that leaves the host as it is.
 fn put_calm(h: Host, out: &mut [u8], at: usize) -> Played
-    ensures { λ r. ⌜ (turnOf r (now (out .exit)) ≡ calm h (page (now (out .entry)) at)) × Within signalRoom (signals noSignals) ⌝ }
+    ensures { λ r. ⌜ (turnOf r (now (out .exit)) ≡ calm h (page (now (out .entry)) at)) × Within calmRoom (signals noSignals) ⌝ }
 {
     let s = state::replies::no_signals();
     let k = replay_signals::put_signals(out, at, s);
@@ -107,9 +110,18 @@ pub fn not_called(h: Host, at: usize) -> Played
     }
 }
 
-// The two lines that are no calls, by their place.
-fn run_other(h: Host, name: usize, i: Items, out: &mut [u8], at: usize) -> Played
-    ensures { λ r. ⌜ (turnOf r (now (out .exit)) ≡ ran (otherLine name i) h (page (now (out .entry)) at)) × TurnFits (ran (otherLine name i) h) ⌝ }
+// The lines that are no calls, by their place.
+fn run_other(
+    h: Host,
+    name: usize,
+    i: Items,
+    p: Ends,
+    room: &[u8],
+    out: &mut [u8],
+    at: usize,
+) -> Played
+    requires { ⌜ length (lentBytes p (now room) .output) ≤ mostLent ⌝ }
+    ensures { λ r. ⌜ (turnOf r (now (out .exit)) ≡ ran (otherLine name i (lentBytes p (now (room .entry)))) h (page (now (out .entry)) at)) × TurnFits (ran (otherLine name i (lentBytes p (now (room .entry)))) h) ⌝ }
 {
     let g = h.gate;
     match name {
@@ -121,6 +133,13 @@ fn run_other(h: Host, name: usize, i: Items, out: &mut [u8], at: usize) -> Playe
         1 => {
             let k = replay_state::put_gate(out, at, g);
             not_called(h, k)
+        }
+        2 => {
+            let saved = replay_items::bytes::lent(room, p.code, p.stored);
+            let lent = replay_items::bytes::lent(room, p.owner, p.output);
+            let two = i.switches.target.on;
+            let k = replay_conversion::put_conversion(out, at, saved, two, lent);
+            put_calm(h, out, k)
         }
         _ => not_called(h, at),
     }
@@ -146,6 +165,7 @@ pub fn run(
     out: &mut [u8],
     at: usize,
 ) -> Played
+    requires { ⌜ length (lentBytes p (now room) .output) ≤ mostLent ⌝ }
     ensures { λ r. ⌜ (turnOf r (now (out .exit)) ≡ ran (lineOf name i (lentBytes p (now (room .entry)))) h (page (now (out .entry)) at)) × TurnFits (ran (lineOf name i (lentBytes p (now (room .entry)))) h) ⌝ }
 {
     let g = h.gate;
@@ -166,5 +186,5 @@ pub fn run(
         let k = replay_queries::put_long(g, long, i, p, room, out, at);
         return put_calm(h, out, k);
     }
-    run_other(h, long - LONG_QUERIES, i, out, at)
+    run_other(h, long - LONG_QUERIES, i, p, room, out, at)
 }

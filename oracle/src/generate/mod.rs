@@ -4,6 +4,7 @@
 mod cars;
 mod clock;
 mod codes;
+mod conversions;
 mod guesses;
 mod lists;
 mod plans;

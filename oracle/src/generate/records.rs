@@ -101,6 +101,20 @@ impl Generator {
         }
     }
 
+    /// A good record of version 2 with one car.
+    pub(super) fn record_of_one_car(&mut self) -> Bytes {
+        let mut cars = self.some_cars();
+        cars.truncate(1);
+        version_2(&cars)
+    }
+
+    /// A record of version 2 that is too large.
+    pub(super) fn record_too_large(&mut self) -> Bytes {
+        let mut cars = self.some_cars();
+        self.make_large(&mut cars);
+        version_2(&cars)
+    }
+
     fn record_of_version_1(&mut self) -> Bytes {
         let car = self.car();
         let mut phones = self.some_phones();

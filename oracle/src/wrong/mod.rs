@@ -3,6 +3,7 @@
 
 mod access;
 mod cars;
+mod conversions;
 mod drawing;
 mod phones;
 mod probe;
@@ -55,6 +56,7 @@ pub fn all() -> Vec<Wrong> {
         phones::RULES,
         cars::RULES,
         records::RULES,
+        conversions::RULES,
         probe::RULES,
         access::RULES,
     ]

@@ -41,7 +41,7 @@ give-line-spec =
     (λ c κs. tt)
     returns-2
     (λ c. first-length _ _ (c .before .before .before .before .if1 .left))
-    (λ c κs. first-room _ _ _ (c .before .before .before .before .before .before .if1 .left) (c .before .before .before .before .before .before .before .before .before .before .before .pre .0))
+    (λ c κs. let h = c .before .before .before .before .before .before .if1 .left in let s = c .before .before .before .before .before .before .before .before .before .before .before in (first-room _ _ _ h (s .pre .0), first-room _ _ _ h (s .pre .2)))
     (λ c. search needs)
     (λ c. search needs)
     returns-3)

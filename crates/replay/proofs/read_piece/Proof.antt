@@ -53,7 +53,7 @@ read-piece-spec =
     (λ c. omega arith)
     (λ c. omega arith)
     returns
-    (λ c κs. (omega arith, omega arith))
+    (λ c κs. (omega arith, omega arith, omega arith))
     (λ c. let good = c .before .before .before .before .before .before .before .before .before .before .before .before .before .before .before .before .before .before .before .before .before .before .good in omega arith)
     (λ c. omega (arith, c .before .before .before .before .before .before .before .before .before .before .before .before .before .before .before .find .ensures))
     loop-again

@@ -19,7 +19,7 @@ run-spec =
     μ-loop
     (λ c κs. tt)
     (λ c. (refl, refl, refl))
-    (λ c κs. (omega arith, omega arith))
+    (λ c κs. (omega arith, omega arith, omega arith))
     (λ c. omega arith)
     (λ c. omega arith)
     (λ c. (omega arith, omega arith, omega arith))

@@ -16,4 +16,4 @@ put-number-spec =
     (λ c. let h = digits-fit (c .before .before .before .before .before .before .args .n) (omega arith) in rw length-take (omega arith))
     (λ c κs. tt)
     (λ c. c .before .before .put-text .kept .0)
-    (λ c. let n = c .before .before .before .before .before .before .before .before .before .args .n in let d = c .before .before .before .before .before .before .put-decimal in rw (← front (d .last .0) (d .result) (decimalOf n) (digits-fit n (omega arith)) (d .ensures .0) (d .ensures .1)) (c .before .before .put-text .ensures)))
+    (λ c. let n = c .before .before .before .before .before .before .before .before .before .args .n in let d = c .before .before .before .before .before .before .put-decimal in rw (← front 20 (d .last .0) (d .result) (decimalOf n) (digits-fit n (omega arith)) (d .ensures .0) (d .ensures .1)) (c .before .before .put-text .ensures)))

@@ -9,7 +9,7 @@ play-call-spec =
     tie.close
     (tie.spec
     (λ c κs. tt)
-    (λ c κs. tt)
+    (λ c κs. c .before .before .before .before .before .before .before .before .pre)
     (λ c. search needs)
     (λ c κs. tt)
     (λ c. search needs)

@@ -1,7 +1,7 @@
 use denote.Ref.{now}
 use mathlib.Core.Path.{sym, _∙_}
 use Rattle.replay_player.proofs.Laws.{word-length, played-right, played-wrong}
-use Rattle.replay_player.proofs.Room.{right-in, wrong-in}
+use Rattle.replay_player.proofs.Room.{lent-most, right-in, wrong-in}
 use borrow.Author.Needs.{needs}
 use Rattle.replay_player.proofs.play_line.Statement.{statement}
 use Rattle.replay_player.proofs.play_line.Tie as tie
@@ -33,7 +33,7 @@ play-line-spec =
     (λ c κs. search needs)
     (λ c κs. tt)
     (λ c. word-length (now (c .before .before .before .before .before .before .before .before .before .before .before .before .before .before .before .args .line)) _ (c .before .before .before .before .before .before .before .before .before .before .before .name-end .ensures))
-    (λ c κs. tt)
+    (λ c κs. let u = c .before .before .before .before .before .before .before .before .before in let s = u .before .before .before .before .before .before .before .before in lent-most (now (s .args .line)) _ (u .read .ensures .bytes) (s .pre .1))
     (λ c. c .before .before .before .before .before .before .before .before .before .before .before .before .read .kept .1 .0)
     (λ c. search needs)
     returns

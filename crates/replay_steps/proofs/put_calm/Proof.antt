@@ -1,7 +1,4 @@
-use lib.Dec.{lit≤}
-use Rattle.replay_lines.proofs.Room.{upto}
-use Rattle.replay_signals.proofs.Room.{signals-in}
-use Rattle.replay_steps.specs.Turns.{signalRoom}
+use Rattle.replay_signals.proofs.Room.{no-signals-in}
 use borrow.Author.Needs.{needs}
 use Rattle.replay_steps.proofs.put_calm.Statement.{statement}
 use Rattle.replay_steps.proofs.put_calm.Tie as tie
@@ -13,6 +10,4 @@ put-calm-spec =
     (λ c κs. tt)
     (λ c κs. tt)
     (λ c. search needs)
-    (λ c.
-    let s = c .before .before .before .before .no-signals in
-    rw (← s .ensures) (rw (← c .before .before .put-signals .ensures), upto signalRoom (lit≤ tt) (signals-in (s .result) _ (s .ok)))))
+    (λ c. (rw (← c .before .before .before .before .no-signals .ensures, ← c .before .before .put-signals .ensures), no-signals-in)))

@@ -57,6 +57,6 @@ run-spec =
     (λ c κs. tt)
     (λ c. search needs)
     returns-4
-    (λ c κs. tt)
+    (λ c κs. c .before .before .before .before .before .before .before .before .pre)
     (λ c. search needs)
     returns-5)

@@ -5,12 +5,14 @@ use Rattle.replay_items.proofs.values.switches.Tie as tie
 
 returns : tie.Need-returns
 unfolding switchesAt
-returns c = rw (← c .before .before .before .before .switch .ensures, ← c .before .before .switch2 .ensures, ← c .switch3 .ensures)
+returns c = rw (← c .before .before .before .before .before .before .switch .ensures, ← c .before .before .before .before .switch2 .ensures, ← c .before .before .switch3 .ensures, ← c .switch4 .ensures)
 
 pub switches-spec : {M : Type 1} → statement M
 switches-spec =
     tie.close
     (tie.spec
+    (λ c. search needs)
+    (λ c κs. tt)
     (λ c. search needs)
     (λ c κs. tt)
     (λ c. search needs)

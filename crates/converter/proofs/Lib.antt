@@ -1,0 +1,5 @@
+pub mod Meaning
+pub mod Theorems
+pub mod Long
+pub mod Laws
+pub mod Cases

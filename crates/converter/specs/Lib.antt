@@ -1,0 +1,3 @@
+pub mod Convert
+pub mod Steps
+pub mod Theorems
