@@ -42,6 +42,7 @@ pub enum Refusal {
     CarTwice = 28,
     ManyCars = 29,
     ShortOutput = 30,
+    NoSave = 31,
 }
 
 impl From<ValidationError> for Refusal {

@@ -89,6 +89,8 @@ calls! {
     Forget "forget_phone_validation" { phone: Bytes }
     Prune "prune_phone_validations" {}
     Restore "restore_phone_validations" { record: Bytes }
+    OpenSave "open_phone_validations_save" {}
+    TakeSave "take_phone_validations_save" { output: Bytes }
     Approve "approve_can_read_write" {}
     RevokeApproval "revoke_can_read_write_approval" {}
     RestoreApproval "restore_can_read_write_approval" { car: Option<[u8; 32]> }

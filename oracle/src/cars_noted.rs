@@ -136,17 +136,21 @@ fn of_conversion(record: &[u8], two: bool, lent: usize) -> Vec<String> {
     items.push(format!("to={}", 1 + usize::from(two)));
     let room = convert(record, two, &[]).room;
     if room > 0 {
-        let stands = match lent {
-            0 => "none",
-            lent if lent + 1 == room => "one_short",
-            lent if lent < room => "short",
-            lent if lent == room => "full",
-            lent if lent == room + 1 => "one_over",
-            _ => "over",
-        };
-        items.push(format!("lent={stands}"));
+        items.push(format!("lent={}", stands(lent, room)));
     }
     items
+}
+
+/// How the lent length stands to the bytes that there are for it.
+pub fn stands(lent: usize, room: usize) -> &'static str {
+    match lent {
+        0 => "none",
+        lent if lent + 1 == room => "one_short",
+        lent if lent < room => "short",
+        lent if lent == room => "full",
+        lent if lent == room + 1 => "one_over",
+        _ => "over",
+    }
 }
 
 fn of_query(phone: &Bytes, shelf: &Shelf) -> Vec<String> {

@@ -7,6 +7,7 @@ use crate::calls::Call;
 use crate::host::{self, Settings};
 use crate::items::MethodKind;
 use crate::marks::Marks;
+use crate::save::Save;
 use crate::shelf::Shelf;
 use core_interface::ProbeWindow;
 use core_interface::oracle::{can_probe, validation};
@@ -25,6 +26,8 @@ pub struct Gate {
     pub(crate) tries: u32,
     /// The store, which W-207 gives up to four cars.
     pub shelf: Shelf,
+    /// The save that is open, which W-209 gives the gate.
+    pub save: Option<Save>,
     /// Without a shelf: the source keeps its one car, and records go through their version 1 form.
     pub(crate) bare: bool,
 }
@@ -65,6 +68,7 @@ impl Gate {
             marks: Marks::default(),
             tries: Settings::least().tries,
             shelf: Shelf::default(),
+            save: None,
             bare: false,
         };
         gate.make_new(Settings::least());
@@ -182,6 +186,7 @@ impl Gate {
         self.marks = Marks::default();
         self.tries = settings.tries;
         self.shelf = Shelf::default();
+        self.save = None;
         self.settings = settings;
     }
 }

@@ -4,6 +4,7 @@ use crate::calls::{Call, LineError, parse};
 use crate::cars_noted::{noted, of_state};
 use crate::gate::Gate;
 use crate::host::Settings;
+use crate::saves_noted::SavesNoted;
 use crate::wrong::{self, Wrong};
 use std::io::{self, BufRead, Write};
 
@@ -14,7 +15,7 @@ pub struct Options {
     pub wrong: Option<Wrong>,
     /// Without a shelf: the source keeps its one car.
     pub bare: bool,
-    /// Behind each line what the call did to the cars of the store.
+    /// Behind each line what the call did to the cars of the store and to a save.
     pub cars: bool,
 }
 
@@ -45,6 +46,7 @@ pub fn replay(script: impl BufRead, mut out: impl Write, options: &Options) -> R
     } else {
         Gate::least()
     };
+    let mut saves = SavesNoted::default();
     let mut passes_over = false;
     let mut awaits: Option<(usize, &'static str)> = None;
     // A line ends with byte 10 alone, and the last one also with the script.
@@ -69,11 +71,14 @@ pub fn replay(script: impl BufRead, mut out: impl Write, options: &Options) -> R
                 if options.wrong.is_none() {
                     check_awake(&gate, &call, number)?;
                 }
-                let before = gate.shelf.clone();
+                let (shelf, save) = (gate.shelf.clone(), gate.save.clone());
                 let reply = wrong::perform(&mut gate, &call, options.wrong);
                 write!(out, "line={number} call={} {reply}", call.name())?;
-                let items = || noted(&call, &reply, &before, &gate.shelf);
-                end_line(&mut out, options.cars, items)?;
+                end_line(&mut out, options.cars, || {
+                    let cars = noted(&call, &reply, &shelf, &gate.shelf);
+                    let saves = saves.items(&call, &reply, save.as_ref(), &gate);
+                    [cars, saves].concat()
+                })?;
                 if options.states {
                     print_state(&mut out, number, &gate, options)?;
                 }
@@ -125,7 +130,11 @@ fn print_state(
 }
 
 /// The end of a line, with further items if they are asked for.
-fn end_line(out: &mut impl Write, asked: bool, items: impl Fn() -> Vec<String>) -> io::Result<()> {
+fn end_line(
+    out: &mut impl Write,
+    asked: bool,
+    items: impl FnOnce() -> Vec<String>,
+) -> io::Result<()> {
     if asked {
         for item in items() {
             write!(out, " {item}")?;

@@ -182,6 +182,8 @@ impl Gate {
                 let record = to_hex(&self.record());
                 (Answer::Ok, Values::text(format!("record={record}")))
             }
+            Call::OpenSave {} => self.open_save(),
+            Call::TakeSave { output } => self.take_save(output).outcome(),
             _ if self.bare => self.run_source(call),
             Call::Submit { .. } | Call::Complete { .. } => self.run_on_session_car(call),
             Call::Forget { .. } | Call::Prune {} => self.run_on_each(call, call),
@@ -253,7 +255,7 @@ impl Gate {
         }
     }
 
-    fn record(&self) -> Bytes {
+    pub(crate) fn record(&self) -> Bytes {
         if self.bare {
             as_version_2(&core_interface::encode_phone_validations())
         } else {

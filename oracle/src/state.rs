@@ -25,7 +25,7 @@ pub fn show_statics() -> String {
 }
 
 impl Gate {
-    /// The state line; its marks are W-201's, its tries W-206's, its cars W-207's.
+    /// The state line; its marks are W-201's, its tries W-206's, its cars W-207's, its save W-209's.
     pub fn show_state(&self) -> String {
         let parts = [
             self.show_settings(),
@@ -34,6 +34,7 @@ impl Gate {
             show_session(),
             format!("tries_left={}", self.tries),
             show_probe(&self.marks.show()),
+            self.show_save(),
         ];
         parts.join(" ")
     }

@@ -49,6 +49,7 @@ abbrev pub opened : Gate → List ℕ → Gate
 opened g digest = record {
   core = withPolicy (g .core) (writable digest);
   phones = record { paired = listOf (phonesFor digest (carsOf (g .phones .store))); store = g .phones .store };
+  save = g .save;
   code = g .code;
 }
 

@@ -49,7 +49,7 @@ restored bytes r i = after (r .sum) (step (r .gate) (onLists (restorePhoneValida
 
 -- the least that a call does: other digits, and nothing raised
 abbrev pub least : Gate → ℕ → Outcome
-least g i = record { answer = Done; signals = noSignals; gate = record { core = g .core; phones = g .phones; code = replicate 9 (i % 256) } }
+least g i = record { answer = Done; signals = noSignals; gate = record { core = g .core; phones = g .phones; save = g .save; code = replicate 9 (i % 256) } }
 
 abbrev pub floored : Run → ℕ → Run
 floored r i = after (r .sum) (given (least (r .gate) i)) i

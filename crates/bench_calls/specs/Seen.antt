@@ -6,7 +6,7 @@ use Rattle.saved_record.specs.declared.SavedRecord.{SavedRecord}
 use Rattle.state.specs.declared.Challenge.{Challenge}
 use Rattle.state.specs.declared.Signals.{Signals}
 use Rattle.state.specs.declared.Answer.{Answer}
-use Rattle.state.specs.declared.Answer.the-variants.{Done, Yes, No, Nothing, Count, Number, Reason, Session, UnknownMethod, CarNotIdentified, CoolingDown, OtherPhoneSession, MethodUnavailable, MethodNotAvailableNow, NoRandomSource, NoSession, NotCodeEntry, WrongCode, NoDevLock, NotNeeded, Logging, BusAsleep, Busy, NoAttemptsLeft, Invalid, IdTooLong, RandomSpent, NotText, ListFull, Malformed, TooLarge, BadFrame, BadSettings, CarTwice}
+use Rattle.state.specs.declared.Answer.the-variants.{Done, Yes, No, Nothing, Count, Number, Reason, Session, Taken, UnknownMethod, CarNotIdentified, CoolingDown, OtherPhoneSession, MethodUnavailable, MethodNotAvailableNow, NoRandomSource, NoSession, NotCodeEntry, WrongCode, NoDevLock, NotNeeded, Logging, BusAsleep, Busy, NoAttemptsLeft, Invalid, IdTooLong, RandomSpent, NotText, ListFull, Malformed, TooLarge, BadFrame, BadSettings, CarTwice, NoSave}
 
 -- a sum of 32 bits, which wraps
 abbrev pub add : ℕ → ℕ → ℕ
@@ -40,6 +40,7 @@ answerSeen (Count n) = 0
 answerSeen (Number n) = 0
 answerSeen (Reason n) = 0
 answerSeen (Session s) = add (s .seconds) 3
+answerSeen (Taken n end) = 0
 answerSeen UnknownMethod = 0
 answerSeen CarNotIdentified = 0
 answerSeen (CoolingDown n) = 0
@@ -66,3 +67,4 @@ answerSeen TooLarge = 0
 answerSeen BadFrame = 0
 answerSeen BadSettings = 0
 answerSeen CarTwice = 0
+answerSeen NoSave = 0

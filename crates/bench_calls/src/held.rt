@@ -85,8 +85,14 @@ fn open(g: Gate, digest: [u8; 32]) -> Gate
     let validated = validations::phones_for(store, digest);
     let paired = phones::canonical(validated);
     let phones = Phones { paired, store };
+    let save = g.save;
     let code = g.code;
-    Gate { core, phones, code }
+    Gate {
+        core,
+        phones,
+        save,
+        code,
+    }
 }
 
 // The phones of the record are paired and validated; `method` is the id of a code entry method.

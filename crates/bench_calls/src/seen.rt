@@ -78,6 +78,7 @@ fn answer_seen(a: Answer) -> u32
         Answer::Count(_) => 0,
         Answer::Number(_) => 0,
         Answer::Reason(_) => 0,
+        Answer::Taken(_, _) => 0,
         Answer::UnknownMethod => 0,
         Answer::CarNotIdentified => 0,
         Answer::CoolingDown(_) => 0,
@@ -103,6 +104,7 @@ fn answer_seen(a: Answer) -> u32
         Answer::BadFrame => 0,
         Answer::BadSettings => 0,
         Answer::CarTwice => 0,
+        Answer::NoSave => 0,
     }
 }
 

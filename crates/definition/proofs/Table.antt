@@ -25,6 +25,7 @@ use Rattle.policy_changes.specs.Changes as Changes
 use Rattle.can_access.specs.Approval as Access
 use Rattle.car_identity.specs.CarIdentity as CarIdentity
 use Rattle.validations.specs.Store as Store
+use Rattle.save.specs.Save as Save
 use Rattle.probe_window.specs.Window as Window
 use Rattle.can_probe.specs.Calls as Probe
 use Rattle.can_tx.specs.Tx as Tx
@@ -72,7 +73,7 @@ unfolding Range.methodsFit Running.cleanMethod Running.methodAt Running.inProgre
 openState2 = tt
 
 unfoldable openState3 : Unit {0}
-unfolding Range.sessionFits Range.windowFits Range.coreFits Range.inRange Replies.noSignals Replies.nothingRaised Replies.phoneAccessChanged
+unfolding Range.sessionFits Range.windowFits Range.coreFits Range.saveFits Range.inRange Save.noSave Replies.noSignals Replies.nothingRaised Replies.phoneAccessChanged
 openState3 = tt
 
 unfoldable openState4 : Unit {0}

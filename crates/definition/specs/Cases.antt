@@ -102,6 +102,7 @@ abbrev pub knownCar : Gate
 knownCar = record {
   core = withPolicy (new .core) (withIdentity (new .core .policy) (record { platform = 0; confirmed = true; car = record { known = true; digest = replicate 32 0x11 } }));
   phones = new .phones;
+  save = new .save;
   code = new .code;
 }
 

@@ -26,6 +26,7 @@ use Rattle.state.specs.declared.Signals.{Signals}
 use Rattle.state.specs.declared.Said.{Said}
 use Rattle.state.specs.declared.Ended.{Ended}
 use Rattle.state.specs.declared.Outcome.{Outcome}
+use Rattle.state.specs.declared.Save.{Save}
 use Rattle.state.specs.Answers.{Numbered, numbered}
 use Rattle.state.specs.Replies.{noS, sentS, nothingRaised, sending, noSignals, noCode, codeAt, showing}
 use Rattle.state.specs.View.{Lists, View, Listing, view, laidPhones}
@@ -35,6 +36,7 @@ use Rattle.dev_lock.specs.DevLock as DevLock
 use Rattle.car_identity.specs.CarIdentity as CarIdentity
 use Rattle.can.specs.Can as Can
 use Rattle.pairing.specs.Pairing as Pairing
+use Rattle.save.specs.Save.{Saving, noSave, opening, taking}
 use Rattle.validations.specs.Store as Validations
 use Rattle.validations.specs.Store.{recordFor, isFull, validating}
 use Rattle.phone_trust.specs.Trust.{isValidated}
@@ -47,7 +49,7 @@ use Rattle.answers.specs.Query as Query
 use Rattle.answers.specs.Query.{Query, Reply, plain, numberedReply, answerTo}
 use Rattle.new_gate.specs.New.{madeCore}
 
--- ---- the calls. Those of a session, those on the lists and those on the core alone are told apart by type. Start and submit stand
+-- ---- the calls. Those of a session, those on the lists, those on the save and those on the core alone are told apart by type. Start and submit stand
 -- alone, since demand 3 lets the random bytes and the typed code differ between its two runs
 
 pub data SessionCall : Type 0 where
@@ -61,6 +63,11 @@ pub data ListCall : Type 0 where
   forgetPhoneValidation : (id : List ℕ) → ListCall
   prunePhoneValidations : ListCall
   restorePhoneValidations : (bytes : List ℕ) → ListCall
+
+-- `out` is memory that the call is lent: what it holds before
+pub data SaveCall : Type 0 where
+  openPhoneValidationsSave : SaveCall
+  takePhoneValidationsSave : (out : List ℕ) → SaveCall
 
 pub data CoreCall : Type 0 where
   setBlePeer : (id : List ℕ) → CoreCall
@@ -85,12 +92,14 @@ pub data Call : Type 0 where
   submitValidationCode : (phone typed : List ℕ) (clock : ℕ) → Call
   onSession : SessionCall → Call
   onLists : ListCall → Call
+  onSave : SaveCall → Call
   onCore : CoreCall → Call
   ask : Query → Call
 
 -- ---- what a call says
 
--- its answer, with lists by their ids; what it sends, and whether S too; and what becomes of each part of the gate
+-- its answer, with lists by their ids; what it sends, and whether S too; what becomes of each part of the gate, and of the memory that it was
+-- lent
 pub record Says : Type 0 where
   pub answer : Reply (List (List ℕ))
   pub raised : Raised
@@ -98,7 +107,9 @@ pub record Says : Type 0 where
   pub core : Core
   pub paired : Left (List (List ℕ))
   pub store : Left (List CarIds)
+  pub save : Save
   pub code : List ℕ
+  pub lent : Left (List ℕ)
 
 -- an operation is not given the digits: it marks where there are none, where the gate's stay, and where those drawn by this call go
 unfoldable pub saying : View → List ℕ → Said → Bool → Left (List CarIds) → Says
@@ -109,7 +120,9 @@ saying v drawn o stores store = record {
   core = o .core;
   paired = stays;
   store = store;
+  save = v .save;
   code = codeAt (v .code) drawn (o .code);
+  lent = stays;
 }
 
 -- an operation on the core leaves the lists
@@ -133,12 +146,38 @@ ofLists v x = record {
   core = v .core;
   paired = x .paired;
   store = x .store;
+  save = v .save;
   code = v .code;
+  lent = stays;
+}
+
+-- an operation on the save leaves everything else
+abbrev pub ofSave : View → Saving → Says
+ofSave v x = record {
+  answer = plain (x .answer);
+  raised = nothingRaised;
+  stores = false;
+  core = v .core;
+  paired = stays;
+  store = stays;
+  save = x .save;
+  code = v .code;
+  lent = x .lent;
 }
 
 -- a query changes nothing and raises nothing
 abbrev pub asked : View → Reply (List (List ℕ)) → Says
-asked v r = record { answer = r; raised = nothingRaised; stores = false; core = v .core; paired = stays; store = stays; code = v .code }
+asked v r = record {
+  answer = r;
+  raised = nothingRaised;
+  stores = false;
+  core = v .core;
+  paired = stays;
+  store = stays;
+  save = v .save;
+  code = v .code;
+  lent = stays;
+}
 
 -- 01, New gate: a gate out of range gets 25 first, and stays unchanged
 unfoldable pub served : View → Says → Says
@@ -160,6 +199,10 @@ listing l bonded clearPairedPhones = Pairing.clear l
 listing l bonded (forgetPhoneValidation id) = Validations.forget l id
 listing l bonded prunePhoneValidations = Validations.prune l
 listing l bonded (restorePhoneValidations bytes) = Validations.restore bytes
+
+unfoldable pub saving : List CarIds → Save → SaveCall → Saving
+saving cs s openPhoneValidationsSave = opening cs
+saving cs s (takePhoneValidationsSave out) = taking s out
 
 unfoldable pub said : Core → Lists → CoreCall → Said
 said c l (setBlePeer id) = Pairing.setPeer c id
@@ -194,7 +237,17 @@ fullFor v = isFull (v .lists .store) (v .core .validation .session .car) (idByte
 unfoldable pub says : View → Call → Says
 says v (newGateCall settings methods count) =
     let m = madeCore settings methods count in
-    record { answer = plain (m .answer); raised = nothingRaised; stores = false; core = m .core; paired = becomes []; store = becomes []; code = noCode }
+    record {
+      answer = plain (m .answer);
+      raised = nothingRaised;
+      stores = false;
+      core = m .core;
+      paired = becomes [];
+      store = becomes [];
+      save = noSave;
+      code = noCode;
+      lent = stays;
+    }
 says v (startValidation phone method clock random) =
     let d = drawn random (v .core .settings .digits) in
     served v (ofCore v (d .code) (Validation.start (v .core) phone method clock (isLent random) (d .ok)))
@@ -203,14 +256,35 @@ says v (submitValidationCode phone typed clock) =
     served v (ofSession v (Validation.submit (v .core) phone clock (isText typed) isRight (fullFor v)))
 says v (onSession k) = served v (ofSession v (ended (v .core) (fullFor v) k))
 says v (onLists k) = served v (ofLists v (listing (v .lists) (v .core .settings .bonded) k))
+says v (onSave k) = served v (ofSave v (saving (v .lists .store) (v .save) k))
 says v (onCore k) = served v (ofCore v noCode (said (v .core) (v .lists) k))
 says v (ask q) = asked v (answerTo v q)
 
 -- ---- the one definition
 
--- memory that a call was lent, as it leaves it: no call is lent any yet
+-- memory that a call is lent
 pub data Lent : Type 0 where
   nothing : Lent
+  bytes : List ℕ → Lent
+
+abbrev pub lentToSave : SaveCall → Lent
+lentToSave openPhoneValidationsSave = nothing
+lentToSave (takePhoneValidationsSave out) = bytes out
+
+abbrev pub lentTo : Call → Lent
+lentTo (newGateCall settings methods count) = nothing
+lentTo (startValidation phone method clock random) = nothing
+lentTo (submitValidationCode phone typed clock) = nothing
+lentTo (onSession k) = nothing
+lentTo (onLists k) = nothing
+lentTo (onSave k) = lentToSave k
+lentTo (onCore k) = nothing
+lentTo (ask q) = nothing
+
+-- as a call leaves it
+abbrev pub lentAfter : Lent → Left (List ℕ) → Lent
+lentAfter nothing x = nothing
+lentAfter (bytes b) x = bytes (afterwards b x)
 
 -- what a call gives: the answer by document 01's number and values, and as it is returned; signals, lent memory, gate. G is a gate, L a
 -- list, as they lie in memory
@@ -241,23 +315,23 @@ replied f (Query.challenge a) = Query.challenge a
 replied f (Query.saved a) = Query.saved a
 
 -- S, where it is sent, is the record of the store that is left
-unfoldable pub gives : {G L : Type 0} → Form G L → G → Says → GivenIn G L
-gives f g s = record {
+unfoldable pub gives : {G L : Type 0} → Form G L → G → Lent → Says → GivenIn G L
+gives f g memory s = record {
   numbered = numberedReply (s .answer);
   answer = replied (f .lay) (s .answer);
   signals = sending (s .raised) (cond (s .stores) (sentS (recordFor (afterwards (f .view g .lists .store) (s .store)))) noS);
-  lent = nothing;
+  lent = lentAfter memory (s .lent);
   gate = f .left g s;
 }
 
 abbrev pub stepIn : {G L : Type 0} → Form G L → G → Call → GivenIn G L
-stepIn f g k = gives f g (says (f .view g) k)
+stepIn f g k = gives f g (lentTo k) (says (f .view g) k)
 
 -- ---- the gate as it lies in memory: lists are packed
 
 -- the gate that a call leaves
 unfoldable pub left : Gate → Says → Gate
-left g s = record { core = s .core; phones = laidPhones (g .phones) (s .paired) (s .store); code = s .code }
+left g s = record { core = s .core; phones = laidPhones (g .phones) (s .paired) (s .store); save = s .save; code = s .code }
 
 abbrev pub packed : Form Gate PhoneList
 packed = record { view = view; left = left; lay = listOf }
@@ -283,8 +357,15 @@ afterAll g (k ∷ ks) = afterAll (after g k) ks
 
 -- ---- what code returns, as what a call gives
 
+abbrev pub givenWith : Outcome → Lent → Given
+givenWith o memory = record { numbered = numbered (o .answer); answer = plain (o .answer); signals = o .signals; lent = memory; gate = o .gate }
+
 abbrev pub given : Outcome → Given
-given o = record { numbered = numbered (o .answer); answer = plain (o .answer); signals = o .signals; lent = nothing; gate = o .gate }
+given o = givenWith o nothing
+
+-- of a call that is lent memory, with what it leaves there
+abbrev pub lentGiven : Outcome → List ℕ → Given
+lentGiven o out = givenWith o (bytes out)
 
 -- a query returns its answer alone
 abbrev pub answered : Gate → Reply PhoneList → Given

@@ -72,17 +72,17 @@ core-keeps c l (Gate.noteMethodCanContinue place on) = search keeping
 
 -- ---- what none of them touches
 
-past-five : (p : CorePart) → 6 ≤ place (inCore p)
-past-five notes = omega arith
-past-five policy = omega arith
-past-five peer = omega arith
-past-five probe = omega arith
+past-six : (p : CorePart) → 7 ≤ place (inCore p)
+past-six notes = omega arith
+past-six policy = omega arith
+past-six peer = omega arith
+past-six probe = omega arith
 
 -- a part that is none of a core's own is in none of their rows
-outside : (p : Part) → place p ≤ 5 → (qs : List CorePart) → isIn p (map inCore qs) ≡ false
+outside : (p : Part) → place p ≤ 6 → (qs : List CorePart) → isIn p (map inCore qs) ≡ false
 unfolding someOf
 outside p h [] = refl
-outside p h (q ∷ qs) = let far = past-five q in rw (ne-eqb (place (inCore q)) (place p) (omega arith)) (outside p h qs)
+outside p h (q ∷ qs) = let far = past-six q in rw (ne-eqb (place (inCore q)) (place p) (omega arith)) (outside p h qs)
 
 pub record Beside (c : Core) (o : Said) : Type 0 where
   pub settings : o .core .settings ≡ c .settings

@@ -14,10 +14,11 @@ use Rattle.state.specs.declared.Said.{Said}
 use Rattle.state.specs.Replies.{noCode, codeAt}
 use Rattle.state.specs.View.{View, Listing, view, laidStore}
 use Rattle.range.specs.Range.{inRange}
+use Rattle.save.specs.Save.{Saving}
 use Rattle.answers.specs.Query.{Reply, plain}
 use Rattle.definition.specs.Gate as Gate
-use Rattle.definition.specs.Gate.{SessionCall, Call, Says, saying, asked, served, ended, said, says, validates, ofSession, ofLists, left, gives, step}
-use Rattle.footprint.specs.Footprint.{Part, settings, methods, validation, paired, store, code, inCore, notes, policy, peer, probe, sessionTouches, listTouches, touches, isIn, Same, Footprint}
+use Rattle.definition.specs.Gate.{SessionCall, Call, Says, saying, asked, served, ended, said, says, validates, ofSession, ofLists, ofSave, left, gives, step}
+use Rattle.footprint.specs.Footprint.{Part, settings, methods, validation, paired, store, save, code, inCore, notes, policy, peer, probe, sessionTouches, listTouches, touches, isIn, Same, Footprint}
 use Rattle.footprint.proofs.Keeps.{pick, mixed, Keeps, either, same-either, unchanged}
 use Rattle.footprint.proofs.Core.{core-keeps}
 use Rattle.footprint.proofs.Sessions.{start-keeps, submit-keeps, session-keeps}
@@ -30,6 +31,7 @@ record Leaves (ps : List Part) (v : View) (s : Says) : Type 0 where
   core : s .core ≡ mixed ps (v .core) (s .core)
   paired : s .paired ≡ pick ps paired stays (s .paired)
   store : s .store ≡ pick ps store stays (s .store)
+  save : s .save ≡ pick ps save (v .save) (s .save)
   code : s .code ≡ pick ps code (v .code) (s .code)
 
 held-at : (b : Bool) (held drawn : List ℕ) (m : Mark) → m ≡ cond b m Kept → codeAt held drawn m ≡ cond b (codeAt held drawn m) held
@@ -40,19 +42,41 @@ leaves-said : (ps : List Part) (v : View) (drawn : List ℕ) (o : Said) (stores 
     → Leaves ps v (saying v drawn o stores x)
 unfolding saying
 leaves-said ps v drawn o stores x h e =
-    record { core = h .core; paired = same-either (isIn paired ps) stays; store = e; code = held-at (isIn code ps) (v .code) drawn (o .code) (h .code) }
+    record {
+      core = h .core;
+      paired = same-either (isIn paired ps) stays;
+      store = e;
+      save = same-either (isIn save ps) (v .save);
+      code = held-at (isIn code ps) (v .code) drawn (o .code) (h .code);
+    }
 
 leaves-core : (ps : List Part) (v : View) (drawn : List ℕ) (o : Said) → Keeps ps (v .core) o → Leaves ps v (Gate.ofCore v drawn o)
 leaves-core ps v drawn o h = leaves-said ps v drawn o false stays h (same-either (isIn store ps) stays)
 
 leaves-lists : (ps : List Part) (v : View) (x : Listing) → KeepsLists ps x → Leaves ps v (ofLists v x)
-leaves-lists ps v x h = record { core = unchanged ps (v .core); paired = h .paired; store = h .store; code = same-either (isIn code ps) (v .code) }
+leaves-lists ps v x h = record {
+  core = unchanged ps (v .core);
+  paired = h .paired;
+  store = h .store;
+  save = same-either (isIn save ps) (v .save);
+  code = same-either (isIn code ps) (v .code);
+}
+
+leaves-save : (ps : List Part) (v : View) (x : Saving) → isIn save ps ≡ true → Leaves ps v (ofSave v x)
+leaves-save ps v x h = record {
+  core = unchanged ps (v .core);
+  paired = same-either (isIn paired ps) stays;
+  store = same-either (isIn store ps) stays;
+  save = rw h;
+  code = same-either (isIn code ps) (v .code);
+}
 
 leaves-asked : (ps : List Part) (v : View) (r : Reply (List (List ℕ))) → Leaves ps v (asked v r)
 leaves-asked ps v r = record {
   core = unchanged ps (v .core);
   paired = same-either (isIn paired ps) stays;
   store = same-either (isIn store ps) stays;
+  save = same-either (isIn save ps) (v .save);
   code = same-either (isIn code ps) (v .code);
 }
 
@@ -72,11 +96,13 @@ leaves-session v full k = leaves-said (sessionTouches k) v noCode _ _ _ (session
 
 leaves : (v : View) (k : Call) → Leaves (touches k) v (says v k)
 unfolding says someOf
-leaves v (Gate.newGateCall settings′ methods′ count) = record { core = refl; paired = refl; store = refl; code = refl }
+leaves v (Gate.newGateCall settings′ methods′ count) = record { core = refl; paired = refl; store = refl; save = refl; code = refl }
 leaves v (Gate.startValidation phone method clock random) = leaves-served _ v _ (leaves-core _ v _ _ (start-keeps (v .core) phone method clock random _ _))
 leaves v (Gate.submitValidationCode phone typed clock) = leaves-served _ v _ (leaves-said _ v noCode _ _ _ (submit-keeps (v .core) phone typed clock _ _ _) refl)
 leaves v (Gate.onSession k) = leaves-served (sessionTouches k) v _ (leaves-session v _ k)
 leaves v (Gate.onLists k) = leaves-served (listTouches k) v _ (leaves-lists (listTouches k) v _ (lists-keep (v .lists) (v .core .settings .bonded) k))
+leaves v (Gate.onSave Gate.openPhoneValidationsSave) = leaves-served _ v _ (leaves-save _ v _ refl)
+leaves v (Gate.onSave (Gate.takePhoneValidationsSave out)) = leaves-served _ v _ (leaves-save _ v _ refl)
 leaves v (Gate.onCore k) = leaves-served (touches (Gate.onCore k)) v _ (leaves-core (touches (Gate.onCore k)) v noCode _ (core-keeps (v .core) (v .lists) k))
 leaves v (Gate.ask q) = leaves-asked [] v _
 
@@ -90,6 +116,7 @@ module _ (ps : List Part) (g : Gate) (s : Says) (h : Leaves ps (view g) s) where
   same validation f = sym ((λ i. h .core i .validation) ∙ rw f)
   same paired f = let e : s .paired ≡ stays = h .paired ∙ rw f in ap (laid (g .phones .paired)) (sym e)
   same store f = let e : s .store ≡ stays = h .store ∙ rw f in ap (laidStore (g .phones .store)) (sym e)
+  same save f = sym (h .save ∙ rw f)
   same code f = sym (h .code ∙ rw f)
   same (inCore notes) f = (sym ((λ i. h .core i .methods .available) ∙ rw f), sym ((λ i. h .core i .methods .continues) ∙ rw f))
   same (inCore policy) f = sym ((λ i. h .core i .policy) ∙ rw f)

@@ -1,13 +1,18 @@
 // The calls on the pairings, the validations and the connected phone: one function for each. State by value in; answer, signals and state by value
 // out. Each promise is an equation with `step` of definition/specs/Gate.antt, for every gate that is lent.
+use save::Kept;
 use state::Gate;
 use state::Listed;
 use state::Outcome;
 ghost use mathlib.Core.Path.{_≡_};
-ghost use Rattle.definition.specs.Gate.{addPairedPhone, removePairedPhone, clearPairedPhones, forgetPhoneValidation, prunePhoneValidations, restorePhoneValidations, setBlePeer, onLists, onCore, step, given};
-ghost use Rattle.state.specs.View.{listedIn};
+ghost use Rattle.definition.specs.Gate.{addPairedPhone, removePairedPhone, clearPairedPhones, forgetPhoneValidation, prunePhoneValidations, restorePhoneValidations, setBlePeer, openPhoneValidationsSave, takePhoneValidationsSave, onLists, onSave, onCore, step, given, lentGiven};
+ghost use Rattle.saved_record.specs.Store.{carsOf};
+ghost use Rattle.state.specs.View.{view, listedIn};
+ghost use Rattle.save.specs.Save.{opening, taking};
+ghost use Rattle.save.specs.Steps.{SaysOf};
+ghost use Rattle.save.specs.Steps as Steps;
 ghost use Rattle.validations.specs.Store.{restore};
-ghost use Rattle.outcomes.specs.Served.{listedOn};
+ghost use Rattle.outcomes.specs.Served.{listedOn, keptOn};
 
 pub fn add_paired_phone(g: Gate, id: &[u8]) -> Outcome
     ensures { λ r. ⌜ given r ≡ step g (onLists (addPairedPhone (now (id .entry)))) ⌝ }
@@ -80,4 +85,44 @@ pub fn set_ble_peer(g: Gate, id: &[u8]) -> Outcome
     let said = pairing::set_ble_peer(core, id);
     let told = outcomes::said_on(g, said);
     outcomes::settled(g, told)
+}
+
+// 25 first.
+fn opened(g: Gate) -> Kept
+    ensures { λ r. ⌜ Steps.Says r (keptOn (view g) (opening (carsOf (g .phones .store)))) ⌝ }
+{
+    if range::in_range(g) {
+        let store = g.phones.store;
+        return save::open_phone_validations_save(store);
+    }
+    let save = g.save;
+    outcomes::save_out_of_range(save)
+}
+
+// Fixes the record of this moment, to be taken piece by piece; a save that is unfinished is dropped.
+pub fn open_phone_validations_save(g: Gate) -> Outcome
+    ensures { λ r. ⌜ given r ≡ step g (onSave openPhoneValidationsSave) ⌝ }
+{
+    let x = opened(g);
+    outcomes::kept(g, x)
+}
+
+// 25 first, and the lent memory stays as it is.
+fn taken(g: Gate, out: &mut [u8]) -> Kept
+    ensures { λ r. ⌜ SaysOf r (now (out .entry)) (now (out .exit)) (keptOn (view g) (taking (g .save) (now (out .entry)))) ⌝ }
+{
+    if range::in_range(g) {
+        let save = g.save;
+        return save::take_phone_validations_save(save, out);
+    }
+    let save = g.save;
+    outcomes::save_out_of_range(save)
+}
+
+// Hands out the next bytes of the save, as many as `out` holds; what lies past them there stays.
+pub fn take_phone_validations_save(g: Gate, out: &mut [u8]) -> Outcome
+    ensures { λ r. ⌜ lentGiven r (now (out .exit)) ≡ step g (onSave (takePhoneValidationsSave (now (out .entry)))) ⌝ }
+{
+    let x = taken(g, out);
+    outcomes::kept(g, x)
 }

@@ -1,5 +1,6 @@
 // New gate, and the calls of a session: one function for each. State by value in; answer, signals and state by value
 // out. Each promise is an equation with `step` of definition/specs/Gate.antt, for every gate that is lent.
+use state::Core;
 use state::Ended;
 use state::Gate;
 use state::Method;
@@ -7,11 +8,12 @@ use state::Outcome;
 use state::Said;
 use state::Settings;
 ghost use mathlib.Core.Path.{_≡_};
+ghost use mathlib.Core.Bool.{cond};
 ghost use Rattle.definition.specs.Gate.{NewFrom, cancelValidation, completeValidationAction, tickValidation, startValidation, submitValidationCode, onSession, fullFor, step, given};
 ghost use Rattle.state.specs.View.{view};
 ghost use Rattle.text.specs.Text.{isText, right};
 ghost use Rattle.validation.specs.Calls.{start, submit};
-ghost use Rattle.outcomes.specs.Served.{saidOn, endedOn};
+ghost use Rattle.outcomes.specs.Served.{outOfRange, endedOn};
 
 pub fn new_gate(settings: Settings, methods: [Method; 8], count: usize) -> Outcome
     ensures { λ r. ⌜ NewFrom r settings methods count ⌝ }
@@ -31,14 +33,20 @@ fn full_for(g: Gate) -> bool
 }
 
 // 25 first: nothing else is looked at on a gate out of range.
-fn started(g: Gate, phone: &[u8], method: &[u8], clock: u64, lent: bool, gives: bool) -> Said
-    ensures { λ r. ⌜ r ≡ saidOn (view g) (start (g .core) (now (phone .entry)) (now (method .entry)) clock lent gives) ⌝ }
+fn started(
+    fits: bool,
+    core: Core,
+    phone: &[u8],
+    method: &[u8],
+    clock: u64,
+    lent: bool,
+    gives: bool,
+) -> Said
+    ensures { λ r. ⌜ r ≡ cond fits (start core (now (phone .entry)) (now (method .entry)) clock lent gives) (outOfRange core) ⌝ }
 {
-    if range::in_range(g) {
-        let core = g.core;
+    if fits {
         return start::start_validation(core, phone, method, clock, lent, gives);
     }
-    let core = g.core;
     outcomes::out_of_range(core)
 }
 
@@ -48,7 +56,9 @@ pub fn start_validation(g: Gate, phone: &[u8], method: &[u8], clock: u64, random
 {
     let drawn = draw::draw(random, g.core.settings.digits);
     let fresh = drawn.code;
-    let said = started(g, phone, method, clock, 0 < random.len(), drawn.ok);
+    let fits = range::in_range(g);
+    let core = g.core;
+    let said = started(fits, core, phone, method, clock, 0 < random.len(), drawn.ok);
     outcomes::drew(g, fresh, said)
 }
 

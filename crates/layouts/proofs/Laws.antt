@@ -10,7 +10,7 @@ use Rattle.range.proofs.Stores.{carsFit}
 use Rattle.validations.specs.Store.{recordFor}
 use Rattle.answers.specs.Query as Query
 use Rattle.answers.specs.Query.{Reply, plain, numberedReply}
-use Rattle.definition.specs.Gate.{Call, Says, says, nothing, Form, replied, gives}
+use Rattle.definition.specs.Gate.{Call, Says, says, Lent, lentTo, lentAfter, Form, replied, gives}
 use Rattle.layouts.specs.Layouts.{run, Told, told}
 
 -- ---- what becomes of a view
@@ -25,6 +25,7 @@ after v s = record {
   lists = record { paired = afterwards (v .lists .paired) (s .paired); store = afterwards (v .lists .store) (s .store) };
   pairedFits = fitsAfter idsFit (v .pairedFits) (s .paired);
   storeFits = fitsAfter carsFit (v .storeFits) (s .store);
+  save = s .save;
   code = s .code;
 }
 
@@ -34,18 +35,18 @@ pub record Lawful {G L : Type 0} (f : Form G L) (ids : L → List (List ℕ)) : 
 
 -- ---- the run of a view, which both runs are
 
-abbrev tells : View → Says → Told
-tells v s = record {
+abbrev tells : View → Lent → Says → Told
+tells v memory s = record {
   numbered = numberedReply (s .answer);
   answer = s .answer;
   signals = sending (s .raised) (cond (s .stores) (sentS (recordFor (afterwards (v .lists .store) (s .store)))) noS);
-  lent = nothing;
+  lent = lentAfter memory (s .lent);
   seen = after v s;
 }
 
 abbrev runSeen : View → List Call → List Told
 runSeen v [] = []
-runSeen v (k ∷ ks) = tells v (says v k) ∷ runSeen (after v (says v k)) ks
+runSeen v (k ∷ ks) = tells v (lentTo k) (says v k) ∷ runSeen (after v (says v k)) ks
 
 module _ {G L : Type 0} (f : Form G L) (ids : L → List (List ℕ)) (law : Lawful f ids) where
   read-back : (r : Reply (List (List ℕ))) → replied ids (replied (f .lay) r) ≡ r
@@ -60,16 +61,16 @@ module _ {G L : Type 0} (f : Form G L) (ids : L → List (List ℕ)) (law : Lawf
   read-back (Query.challenge a) = refl
   read-back (Query.saved a) = refl
 
-  tells-is : (g : G) (s : Says) → told f ids (gives f g s) ≡ tells (f .view g) s
+  tells-is : (g : G) (memory : Lent) (s : Says) → told f ids (gives f g memory s) ≡ tells (f .view g) memory s
   unfolding gives
-  tells-is g s = rw (read-back (s .answer), law .leaves g s)
+  tells-is g memory s = rw (read-back (s .answer), law .leaves g s)
 
   run-seen : (g : G) (ks : List Call) → map (told f ids) (run f g ks) ≡ runSeen (f .view g) ks
   unfolding gives
   run-seen g [] = refl
   run-seen g (k ∷ ks) =
       let s = says (f .view g) k in
-      rw (tells-is g s, run-seen (f .left g s) ks, law .leaves g s)
+      rw (tells-is g (lentTo k) s, run-seen (f .left g s) ks, law .leaves g s)
 
 module _ {G L H K : Type 0} (f : Form G L) (ids : L → List (List ℕ)) (law : Lawful f ids) (f′ : Form H K) (ids′ : K → List (List ℕ)) (law′ : Lawful f′ ids′) where
   pub agree : (g : G) (h : H) (ks : List Call) → f .view g ≡ f′ .view h → map (told f ids) (run f g ks) ≡ map (told f′ ids′) (run f′ h ks)

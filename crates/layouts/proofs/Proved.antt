@@ -18,7 +18,7 @@ use Rattle.state.specs.declared.Gate.{Gate}
 use Rattle.state.specs.View.{View, view, laidStore}
 use Rattle.range.specs.Range.{inRange}
 use Rattle.range.proofs.Stores.{carsFit, cars-fit, store-range, store-fits}
-use Rattle.definition.specs.Gate.{Call, newGateCall, Says, says, gives, left, packed, step}
+use Rattle.definition.specs.Gate.{Call, newGateCall, Says, says, lentTo, gives, left, packed, step}
 use Rattle.layouts.specs.Wide.{WideGate, wideIds, wideOf, wideInRange, wideCars, wideStoreOf, wideStoreInRange, wideView, wideLeft, wide}
 use Rattle.layouts.specs.Layouts.{All, Sized, WideSized, SizedStore, WideSizedStore, run, LayoutsAgree, Zeros, ZerosStore, ZerosIn, ZerosPast}
 use Rattle.layouts.proofs.Laws.{after, Lawful, agree}
@@ -34,6 +34,7 @@ packed-leaves g s = λ i. record {
   lists = record { paired = packed-ids (g .phones .paired) (s .paired) i; store = store-left-ids (g .phones .store) (s .store) i };
   pairedFits = packed-range (g .phones .paired) (s .paired) i;
   storeFits = store-left-range (g .phones .store) (s .store) i;
+  save = s .save;
   code = s .code;
 }
 
@@ -44,6 +45,7 @@ wide-leaves g s = λ i. record {
   lists = record { paired = wide-ids wideOf wideIds wide-reads (g .paired) (s .paired) i; store = wide-ids wideStoreOf wideCars wide-store-reads (g .store) (s .store) i };
   pairedFits = wide-range wideOf wideInRange idsFit wide-fits (g .paired) (s .paired) i;
   storeFits = wide-range wideStoreOf wideStoreInRange carsFit wide-store-range (g .store) (s .store) i;
+  save = s .save;
   code = s .code;
 }
 
@@ -57,7 +59,7 @@ wide-law = record { reads = wide-reads; leaves = wide-leaves }
 
 both-fit : (v : View) → inRange v ≡ true → (v .pairedFits ≡ true) × (v .storeFits ≡ true)
 unfolding inRange
-both-fit v h = let p = simp and-eq-true-iff at h in (p .0 .1, p .1)
+both-fit v h = let p = simp and-eq-true-iff at h in (p .0 .0 .1, p .0 .1)
 
 packs : (w : WideGate) → inRange (wideView w) ≡ true → (g : Gate) × Sized (g .phones .paired) × SizedStore (g .phones .store) × (view g ≡ wideView w)
 unfolding view wideView
@@ -67,7 +69,7 @@ packs w h =
     let cars = wideCars (w .store) in
     let idsIn = wide-range-fits (w .paired) (r .0) in
     let carsIn = wide-store-fits (w .store) (r .1) in (
-      record { core = w .core; phones = record { paired = listOf ids; store = storeOf cars }; code = w .code },
+      record { core = w .core; phones = record { paired = listOf ids; store = storeOf cars }; save = w .save; code = w .code },
       packed-sized ids idsIn,
       store-sized cars carsIn,
       λ i. record {
@@ -75,6 +77,7 @@ packs w h =
         lists = record { paired = phones-of-list ids i; store = cars-of-store cars i };
         pairedFits = (fits-of-list ids ∙ idsIn ∙ sym (r .0)) i;
         storeFits = (store-range cars ∙ cars-fit cars carsIn ∙ sym (r .1)) i;
+        save = w .save;
         code = w .code;
       },
     )
@@ -87,7 +90,7 @@ unpacks g h =
     let cars = carsOf (g .phones .store) in
     let idsIn = range-fits (g .phones .paired) (r .0) in
     let carsIn = store-fits (g .phones .store) (r .1) in (
-      record { core = g .core; paired = wideOf ids; store = wideStoreOf cars; code = g .code },
+      record { core = g .core; paired = wideOf ids; store = wideStoreOf cars; save = g .save; code = g .code },
       wide-sized ids idsIn,
       wide-store-sized cars carsIn,
       λ i. record {
@@ -95,11 +98,12 @@ unpacks g h =
         lists = record { paired = wide-reads ids i; store = wide-store-reads cars i };
         pairedFits = (wide-fits ids ∙ idsIn ∙ sym (r .0)) i;
         storeFits = (wide-store-range cars ∙ cars-fit cars carsIn ∙ sym (r .1)) i;
+        save = g .save;
         code = g .code;
       },
     )
 
-same : (g : Gate) (k : Call) → gives packed g (says (view g) k) ≡ step g k
+same : (g : Gate) (k : Call) → gives packed g (lentTo k) (says (view g) k) ≡ step g k
 unfolding step
 same g k = refl
 

@@ -11,6 +11,7 @@ use Rattle.phones.specs.Ids.{someOf, allOf, Left, stays, becomes}
 use Rattle.phones.specs.Phones.{idBytes, idOf, tooLong}
 use Rattle.saved_record.specs.SavedRecord.{CarIds, twice}
 use Rattle.state.specs.declared.Core.{Core}
+use Rattle.state.specs.declared.Save.{Save}
 use Rattle.state.specs.View.{View}
 use Rattle.definition.specs.Gate.{Says, Form}
 
@@ -68,6 +69,7 @@ pub record WideGate : Type 0 where
   pub core : Core
   pub paired : WideList
   pub store : WideStore
+  pub save : Save
   pub code : List ℕ
 
 unfoldable pub wideView : WideGate → View
@@ -76,11 +78,18 @@ wideView g = record {
   lists = record { paired = wideIds (g .paired); store = wideCars (g .store) };
   pairedFits = wideInRange (g .paired);
   storeFits = wideStoreInRange (g .store);
+  save = g .save;
   code = g .code;
 }
 
 unfoldable pub wideLeft : WideGate → Says → WideGate
-wideLeft g s = record { core = s .core; paired = wideLaid wideOf (g .paired) (s .paired); store = wideLaid wideStoreOf (g .store) (s .store); code = s .code }
+wideLeft g s = record {
+  core = s .core;
+  paired = wideLaid wideOf (g .paired) (s .paired);
+  store = wideLaid wideStoreOf (g .store) (s .store);
+  save = s .save;
+  code = s .code;
+}
 
 abbrev pub wide : Form WideGate WideList
 wide = record { view = wideView; left = wideLeft; lay = wideOf }

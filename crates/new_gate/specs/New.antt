@@ -21,6 +21,7 @@ use Rattle.state.specs.Running.{noMethod, cleanMethod}
 use Rattle.range.specs.Range.{settingsFit, methodsIn}
 use Rattle.state.specs.Replies.{noCar, noSignals, noCode}
 use Rattle.saved_record.specs.Store.{storeOf}
+use Rattle.save.specs.Save.{noSave}
 use Rattle.probe_window.specs.Window.{noWindow}
 
 abbrev pub noSession : Session
@@ -70,7 +71,7 @@ abbrev pub madeGate : Made → Outcome
 madeGate m = record {
   answer = m .answer;
   signals = noSignals;
-  gate = record { core = m .core; phones = record { paired = listOf []; store = storeOf [] }; code = noCode };
+  gate = record { core = m .core; phones = record { paired = listOf []; store = storeOf [] }; save = noSave; code = noCode };
 }
 
 unfoldable pub newGate : Settings → List Method → ℕ → Outcome

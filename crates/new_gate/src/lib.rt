@@ -152,7 +152,13 @@ fn made_gate(answer: Answer, core: Core) -> Outcome
     let store = validations::no_validations();
     let phones = Phones { paired, store };
     let code = [0u8; 9];
-    let gate = Gate { core, phones, code };
+    let save = save::no_save();
+    let gate = Gate {
+        core,
+        phones,
+        save,
+        code,
+    };
     Outcome {
         answer,
         signals,

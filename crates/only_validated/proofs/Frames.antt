@@ -9,7 +9,6 @@ use borrow.Author.Tests.{eq-eqb, ne-eqb, eqb-true, not-true}
 use lib.Dec.{eqb, ltb}
 use lib.ListN.{length, take}
 use Rattle.phones.specs.Ids.{someOf, allOf, contains}
-use Rattle.phones.specs.Phones.{listInRange}
 use Rattle.frames.specs.declared.CanFrame.{CanFrame}
 use Rattle.frames.specs.declared.TxClass.the-variants.{Platform, Command}
 use Rattle.frames.specs.Frames.{canIdInRange}
@@ -21,7 +20,7 @@ use Rattle.state.specs.declared.Said.{Said}
 use Rattle.state.specs.Replies.{noCode, leave, quiet, yesNo}
 use Rattle.state.specs.Checks.{checked}
 use Rattle.state.specs.View.{View, listsIn, view, carInRange, storeInRange}
-use Rattle.range.specs.Range.{coreFits, inRange}
+use Rattle.range.specs.Range.{inRange}
 use Rattle.policy.specs.Policy.{fingerprintConfirmed, isBusReadOnly}
 use Rattle.phone_trust.specs.Trust.{validatedNow, isValidated}
 use Rattle.probe_window.specs.declared.Unsent.{Unsent}
@@ -63,7 +62,7 @@ apart g h =
     cases (λ (b : Bool). b ≡ true → twice (carsOf s) ≡ false) (ltb 4 (s .count)) false _
     (λ e. untrue)
     (λ e k. not-true _ (and-eq-true-iff (allOf carInRange (take (s .count) (s .cars))) _ .0 k .1))
-    (and-eq-true-iff (coreFits (g .core) && listInRange (g .phones .paired)) _ .0 h .1)
+    ((simp and-eq-true-iff at h) .0 .1)
 
 -- ---- a command
 

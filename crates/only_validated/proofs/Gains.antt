@@ -175,6 +175,7 @@ module _ (g : Gate) where
   gain-call (Gate.submitValidationCode phone typed clock) = gain-served _ _ (gain-ended _ _ _ _ (only-submit g phone typed clock _ .only))
   gain-call (Gate.onSession k) = gain-served _ _ (gain-ended _ _ _ _ (gain-session _ k .only))
   gain-call (Gate.onLists k) = gain-served _ _ (gain-listing k)
+  gain-call (Gate.onSave k) = gain-served _ _ (gain-stays _ _)
   gain-call (Gate.onCore k) = gain-served _ _ (gain-stays _ _)
   gain-call (Gate.ask q) = gain-stays _ _
 

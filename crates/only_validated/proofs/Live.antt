@@ -39,6 +39,7 @@ use Rattle.car_identity.specs.CarIdentity as CarIdentity
 use Rattle.can.specs.Can as Can
 use Rattle.phone_trust.specs.Trust as Trust
 use Rattle.validations.specs.Store as Store
+use Rattle.save.specs.Save as Save
 use Rattle.pairing.specs.Pairing as Pairing
 use Rattle.can_tx.specs.Tx as Tx
 use Rattle.session_times.specs.Times as Times
@@ -151,7 +152,7 @@ pub record Examples : Type 0 where
   pub backOther : told thereAndBack other ≡ plain No
 
 pub examples : Examples
-unfolding padded sameBytes contains idBytes idInRange idOf idsIn joined kept listInRange listOf phonesOf pushed removeAll roomFor someOf tooLong K padLast W rounds hashFrom sha256 domain carMessage carDigest digits drawLimit drawn firstBelow group decode encode encodeAll Utf8.within isText right trim trimFront trimmed white allOf anyLong before field fields overLimits readFields carPart carParts encoded ofCar readCounted readAfter readCar readOn readCars readTwo readVersion nothingAfter hasCar twice over judged decoded carOf laidCar emptyCar carsOf storeOf Range.within Range.settingsFit Range.printable Range.methodFits Range.allFit Range.methodsIn Range.methodsFit Running.methodAt Running.cleanMethod Running.inProgress Running.codeInProgress Range.triesFit Range.sessionFits Range.windowFits Range.coreFits Range.inRange view carInRange storeInRange listsStay Replies.leave Replies.quiet Replies.reply Replies.notified Replies.finish Policy.fingerprintConfirmed Policy.isIdentified Policy.approvedCar Policy.allowsReadWrite Policy.isReadOnly Policy.isFdBus Policy.isBusReadOnly Changes.policyChanged Access.approve DevLock.declareProduction CarIdentity.confirmPlatform CarIdentity.confirmFingerprint Can.lockAsked Can.setReadOnly Trust.isPaired Trust.validatedNow Trust.isValidated Store.withSome Store.underEvery Store.phonesFor Store.forgetting Store.forget Store.restore Store.isFull Store.displaced Store.validating Pairing.pair Tx.allowsCommand Tx.allow Times.saturatingAdd Session.endedAs Session.isOf Session.lostReadWrite Session.noteAt Session.cannotGoOn Session.lapseOf Session.placeFrom Session.placeOf Times.nextNumber checked Validation.endSession Validation.runsFor Validation.startChecks Validation.newSession Validation.begin Validation.startAt Validation.start Validation.refilled Validation.succeededCore Validation.succeed Validation.rightCode Validation.judge Validation.submitted Validation.submit Validation.isAction Validation.completed Validation.complete Query.answerTo Answers.ifInRange New.newMethods New.newCore New.madeCore New.newGate Gate.saying Gate.served Gate.ended Gate.listing Gate.said Gate.says Gate.left Gate.gives step isDigit isSeparator beginsDigit isDropped ungroupedFrom ungrouped
+unfolding padded sameBytes contains idBytes idInRange idOf idsIn joined kept listInRange listOf phonesOf pushed removeAll roomFor someOf tooLong K padLast W rounds hashFrom sha256 domain carMessage carDigest digits drawLimit drawn firstBelow group decode encode encodeAll Utf8.within isText right trim trimFront trimmed white allOf anyLong before field fields overLimits readFields carPart carParts encoded ofCar readCounted readAfter readCar readOn readCars readTwo readVersion nothingAfter hasCar twice over judged decoded carOf laidCar emptyCar carsOf storeOf Range.within Range.settingsFit Range.printable Range.methodFits Range.allFit Range.methodsIn Range.methodsFit Running.methodAt Running.cleanMethod Running.inProgress Running.codeInProgress Range.triesFit Range.sessionFits Range.windowFits Range.coreFits Range.saveFits Range.inRange Save.noSave view carInRange storeInRange listsStay Replies.leave Replies.quiet Replies.reply Replies.notified Replies.finish Policy.fingerprintConfirmed Policy.isIdentified Policy.approvedCar Policy.allowsReadWrite Policy.isReadOnly Policy.isFdBus Policy.isBusReadOnly Changes.policyChanged Access.approve DevLock.declareProduction CarIdentity.confirmPlatform CarIdentity.confirmFingerprint Can.lockAsked Can.setReadOnly Trust.isPaired Trust.validatedNow Trust.isValidated Store.withSome Store.underEvery Store.phonesFor Store.forgetting Store.forget Store.restore Store.isFull Store.displaced Store.validating Pairing.pair Tx.allowsCommand Tx.allow Times.saturatingAdd Session.endedAs Session.isOf Session.lostReadWrite Session.noteAt Session.cannotGoOn Session.lapseOf Session.placeFrom Session.placeOf Times.nextNumber checked Validation.endSession Validation.runsFor Validation.startChecks Validation.newSession Validation.begin Validation.startAt Validation.start Validation.refilled Validation.succeededCore Validation.succeed Validation.rightCode Validation.judge Validation.submitted Validation.submit Validation.isAction Validation.completed Validation.complete Query.answerTo Answers.ifInRange New.newMethods New.newCore New.madeCore New.newGate Gate.saying Gate.served Gate.ended Gate.listing Gate.said Gate.says Gate.left Gate.gives step isDigit isSeparator beginsDigit isDropped ungroupedFrom ungrouped
 examples = record {
   byCode = refl;
   byAction = refl;

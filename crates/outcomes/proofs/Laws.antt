@@ -15,14 +15,17 @@ use Rattle.state.specs.declared.Ended.{Ended}
 use Rattle.state.specs.declared.Listed.{Listed}
 use Rattle.state.specs.declared.Outcome.{Outcome}
 use Rattle.state.specs.declared.Answer.the-variants.{BadSettings}
-use Rattle.state.specs.Replies.{noS, nothingRaised, sending, leave, noCode, codeAt, showing}
+use Rattle.save.specs.declared.Kept.{Kept}
+use Rattle.save.specs.Save.{Saving}
+use Rattle.save.specs.Steps.{Says}
+use Rattle.state.specs.Replies.{noS, noSignals, nothingRaised, sending, leave, noCode, codeAt, showing}
 use Rattle.state.specs.View.{View, Listing, view, listsIn, listsStay, laidStore, listedIn}
 use Rattle.range.specs.Range.{inRange}
 use Rattle.answers.specs.Query.{plain}
 use Rattle.validation.specs.Calls.{unvalidated}
-use Rattle.definition.specs.Gate.{SessionCall, ListCall, CoreCall, onSession, onLists, onCore, saying, ofCore, ofSession, ofLists, asked, served, ended, listing, said, fullFor, says, left, gives, packed, step, given}
-use Rattle.outcomes.specs.Served.{outOfRange, saidOn, endedOn, listedOn}
-use Rattle.outcomes.specs.Settled.{put, storedIf, Settles}
+use Rattle.definition.specs.Gate.{SessionCall, ListCall, SaveCall, CoreCall, onSession, onLists, onSave, onCore, saying, ofCore, ofSession, ofLists, ofSave, saving, Lent, nothing, lentToSave, lentAfter, givenWith, asked, served, ended, listing, said, fullFor, says, left, gives, packed, step, given}
+use Rattle.outcomes.specs.Served.{outOfRange, saidOn, endedOn, listedOn, keptOn}
+use Rattle.outcomes.specs.Settled.{put, storedIf, Settles, Keeps}
 
 -- the store that is left holds what becomes of it
 pub store-after : (v : Store) (x : Left (List CarIds)) → carsOf (laidStore v x) ≡ afterwards (carsOf v) x
@@ -32,20 +35,26 @@ store-after v (becomes cs) = cars-of-store cs
 -- ---- what is put together
 
 pub put-core : (g : Gate) (drawn : List ℕ) (o : Said)
-    → given (put (g .code) drawn o (g .phones) (sending (showing (codeAt (g .code) drawn (o .shows)) (o .raised)) noS)) ≡ gives packed g (ofCore (view g) drawn o)
+    → given (put (g .code) drawn o (g .phones) (g .save) (sending (showing (codeAt (g .code) drawn (o .shows)) (o .raised)) noS)) ≡ gives packed g nothing (ofCore (view g) drawn o)
 unfolding put gives saying left view
 put-core g drawn o = refl
 
 pub put-stored : (g : Gate) (o : Said) (stores : Bool) (v : Store) (x : Left (List CarIds)) → v ≡ laidStore (g .phones .store) x
-    → given (put (g .code) noCode o (record { paired = g .phones .paired; store = v }) (sending (showing (codeAt (g .code) noCode (o .shows)) (o .raised)) (storedIf stores (carsOf v)))) ≡ gives packed g (saying (view g) noCode o stores x)
+    → given (put (g .code) noCode o (record { paired = g .phones .paired; store = v }) (g .save) (sending (showing (codeAt (g .code) noCode (o .shows)) (o .raised)) (storedIf stores (carsOf v)))) ≡ gives packed g nothing (saying (view g) noCode o stores x)
 unfolding put gives saying left view
 put-stored g o stores v x e = rw (e, store-after (g .phones .store) x)
 
 pub put-lists : (g : Gate) (d : Listing) (x : Listed) → x ≡ listedIn (g .phones) d
-    → given (record { answer = x .answer; signals = sending (x .raised) (storedIf (x .stores) (carsOf (x .phones .store))); gate = record { core = g .core; phones = x .phones; code = g .code } })
-    ≡ gives packed g (ofLists (view g) d)
+    → given (record { answer = x .answer; signals = sending (x .raised) (storedIf (x .stores) (carsOf (x .phones .store))); gate = record { core = g .core; phones = x .phones; save = g .save; code = g .code } })
+    ≡ gives packed g nothing (ofLists (view g) d)
 unfolding gives left view
 put-lists g d x e = rw (e, store-after (g .phones .store) (d .store))
+
+pub put-save : (g : Gate) (m : Lent) (d : Saving) (x : Kept) → Says x d
+    → givenWith (record { answer = x .answer; signals = noSignals; gate = record { core = g .core; phones = g .phones; save = x .save; code = g .code } }) (lentAfter m (d .lent))
+    ≡ gives packed g m (ofSave (view g) d)
+unfolding gives left view noSignals nothingRaised
+put-save g m d x e = rw e
 
 -- ---- 25 before what is said, or in it
 
@@ -65,6 +74,10 @@ module _ (v : View) where
   lists-or true d = refl
   lists-or false d = refl
 
+  save-or : (b : Bool) (x : Saving) → cond b (ofSave v x) (asked v (plain BadSettings)) ≡ ofSave v (cond b x (record { answer = BadSettings; save = v .save; lent = stays }))
+  save-or true x = refl
+  save-or false x = refl
+
 laid-or : (p : Phones) (b : Bool) (d e : Listing) → cond b (listedIn p d) (listedIn p e) ≡ listedIn p (cond b d e)
 laid-or p true d e = refl
 laid-or p false d e = refl
@@ -73,21 +86,21 @@ laid-or p false d e = refl
 
 module _ (g : Gate) where
   -- an operation on the core
-  pub by-said : (drawn : List ℕ) (p o : Said) (r : Outcome) → p ≡ saidOn (view g) o → given r ≡ gives packed g (ofCore (view g) drawn p)
-      → given r ≡ gives packed g (served (view g) (ofCore (view g) drawn o))
+  pub by-said : (drawn : List ℕ) (p o : Said) (r : Outcome) → p ≡ saidOn (view g) o → given r ≡ gives packed g nothing (ofCore (view g) drawn p)
+      → given r ≡ gives packed g nothing (served (view g) (ofCore (view g) drawn o))
   unfolding served saidOn
-  by-said drawn p o r f z = z ∙ ap (λ (t : Said). gives packed g (ofCore (view g) drawn t)) f ∙ sym (ap (gives packed g) (core-or (view g) (inRange (view g)) drawn o))
+  by-said drawn p o r f z = z ∙ ap (λ (t : Said). gives packed g nothing (ofCore (view g) drawn t)) f ∙ sym (ap (gives packed g nothing) (core-or (view g) (inRange (view g)) drawn o))
 
-  pub by-core : (k : CoreCall) (o p : Said) (r : Outcome) → o ≡ said (g .core) (listsIn (g .phones)) k → p ≡ saidOn (view g) o → given r ≡ gives packed g (ofCore (view g) noCode p) → given r ≡ step g (onCore k)
+  pub by-core : (k : CoreCall) (o p : Said) (r : Outcome) → o ≡ said (g .core) (listsIn (g .phones)) k → p ≡ saidOn (view g) o → given r ≡ gives packed g nothing (ofCore (view g) noCode p) → given r ≡ step g (onCore k)
   unfolding step says view
   by-core k o p r f q z = by-said noCode p (said (g .core) (listsIn (g .phones)) k) r (q ∙ ap (saidOn (view g)) f) z
 
   -- an operation on a session
-  pub by-ended : (p o : Ended) (r : Outcome) → p ≡ endedOn (view g) o → given r ≡ gives packed g (ofSession (view g) p) → given r ≡ gives packed g (served (view g) (ofSession (view g) o))
+  pub by-ended : (p o : Ended) (r : Outcome) → p ≡ endedOn (view g) o → given r ≡ gives packed g nothing (ofSession (view g) p) → given r ≡ gives packed g nothing (served (view g) (ofSession (view g) o))
   unfolding served endedOn
-  by-ended p o r f z = z ∙ ap (λ (t : Ended). gives packed g (ofSession (view g) t)) f ∙ sym (ap (gives packed g) (session-or (view g) (inRange (view g)) o))
+  by-ended p o r f z = z ∙ ap (λ (t : Ended). gives packed g nothing (ofSession (view g) t)) f ∙ sym (ap (gives packed g nothing) (session-or (view g) (inRange (view g)) o))
 
-  pub by-session : (k : SessionCall) (o p : Ended) (r : Outcome) → o ≡ ended (g .core) (fullFor (view g)) k → p ≡ endedOn (view g) o → given r ≡ gives packed g (ofSession (view g) p) → given r ≡ step g (onSession k)
+  pub by-session : (k : SessionCall) (o p : Ended) (r : Outcome) → o ≡ ended (g .core) (fullFor (view g)) k → p ≡ endedOn (view g) o → given r ≡ gives packed g nothing (ofSession (view g) p) → given r ≡ step g (onSession k)
   unfolding step says view
   by-session k o p r f q z = by-ended p (ended (g .core) (fullFor (view g)) k) r (q ∙ ap (endedOn (view g)) f) z
 
@@ -98,4 +111,13 @@ module _ (g : Gate) where
       let b = inRange (view g) in
       let d = listing (listsIn (g .phones)) (g .core .settings .bonded) k in
       let none = listsStay nothingRaised BadSettings in
-      z (cond b d none) (q ∙ ap (listedOn g) f ∙ laid-or (g .phones) b d none) ∙ sym (ap (gives packed g) (lists-or (view g) b d))
+      z (cond b d none) (q ∙ ap (listedOn g) f ∙ laid-or (g .phones) b d none) ∙ sym (ap (gives packed g nothing) (lists-or (view g) b d))
+
+  -- an operation on the save
+  pub by-save : (k : SaveCall) (x : Kept) (r : Outcome) → Says x (keptOn (view g) (saving (carsOf (g .phones .store)) (g .save) k)) → Keeps g x r
+      → givenWith r (lentAfter (lentToSave k) (keptOn (view g) (saving (carsOf (g .phones .store)) (g .save) k) .lent)) ≡ step g (onSave k)
+  unfolding step says served keptOn view
+  by-save k x r e z =
+      let b = inRange (view g) in
+      let d = saving (carsOf (g .phones .store)) (g .save) k in
+      z _ (lentToSave k) e ∙ sym (ap (gives packed g (lentToSave k)) (save-or (view g) b d))

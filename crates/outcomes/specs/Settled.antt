@@ -11,17 +11,21 @@ use Rattle.state.specs.declared.Said.{Said}
 use Rattle.state.specs.declared.Listed.{Listed}
 use Rattle.state.specs.declared.Signals.{Signals}
 use Rattle.state.specs.declared.Outcome.{Outcome}
+use Rattle.state.specs.declared.Save.{Save}
 use Rattle.state.specs.Replies.{noS, sentS, codeAt}
 use Rattle.state.specs.View.{Listing, view, listedIn}
 use Rattle.validations.specs.Store.{recordFor}
-use Rattle.definition.specs.Gate.{ofLists, gives, packed, given}
+use Rattle.save.specs.declared.Kept.{Kept}
+use Rattle.save.specs.Save.{Saving}
+use Rattle.save.specs.Steps.{Says}
+use Rattle.definition.specs.Gate.{ofLists, ofSave, Lent, nothing, lentAfter, gives, packed, given, givenWith}
 
--- what an operation on the core says, with the digits where it marks them, and the lists and the signals beside it
-unfoldable pub put : List ℕ → List ℕ → Said → Phones → Signals → Outcome
-put held drawn o p s = record {
+-- what an operation on the core says, with the digits where it marks them, and the lists, the save and the signals beside it
+unfoldable pub put : List ℕ → List ℕ → Said → Phones → Save → Signals → Outcome
+put held drawn o p v s = record {
   answer = o .answer;
   signals = s;
-  gate = record { core = o .core; phones = p; code = codeAt held drawn (o .code) };
+  gate = record { core = o .core; phones = p; save = v; code = codeAt held drawn (o .code) };
 }
 
 -- S, if it is sent
@@ -30,4 +34,8 @@ storedIf stores cs = cond stores (sentS (recordFor cs)) noS
 
 -- lists that are laid down already, whatever operation left them
 abbrev pub Settles : Gate → Listed → Outcome → Type 0
-Settles g x r = (d : Listing) → x ≡ listedIn (g .phones) d → given r ≡ gives packed g (ofLists (view g) d)
+Settles g x r = (d : Listing) → x ≡ listedIn (g .phones) d → given r ≡ gives packed g nothing (ofLists (view g) d)
+
+-- a save that was said already, whatever operation left it, with the memory that it was lent
+abbrev pub Keeps : Gate → Kept → Outcome → Type 0
+Keeps g x r = (d : Saving) (m : Lent) → Says x d → givenWith r (lentAfter m (d .lent)) ≡ gives packed g m (ofSave (view g) d)

@@ -1,6 +1,7 @@
 // What a call gives, put together from what its operation says: the gate that it leaves, and its signals. S is made here and
 // nowhere else, of the store that is left. On a gate out of range the operation counts as one that answers 25 and leaves all as it is.
 // A gate is put together from its parts, each copied once.
+use save::Kept;
 use saved_record::Store;
 use state::Answer;
 use state::Core;
@@ -11,6 +12,7 @@ use state::Outcome;
 use state::Phones;
 use state::Raised;
 use state::Said;
+use state::Save;
 use state::Signals;
 use state::ValidationsSignal;
 ghost use mathlib.Core.Path.{_≡_};
@@ -19,9 +21,9 @@ ghost use Rattle.state.specs.Replies.{nothingRaised, noCode, sentS, codeAt, sho
 ghost use Rattle.state.specs.View.{view, laidStore, listsStay, listedIn};
 ghost use Rattle.saved_record.specs.Store.{carsOf};
 ghost use Rattle.validations.specs.Store.{recordFor};
-ghost use Rattle.definition.specs.Gate.{validates, ofCore, ofSession, gives, packed, given};
-ghost use Rattle.outcomes.specs.Served.{saidOn, endedOn, listedOn, outOfRange};
-ghost use Rattle.outcomes.specs.Settled.{storedIf, Settles};
+ghost use Rattle.definition.specs.Gate.{validates, ofCore, ofSession, nothing, gives, packed, given};
+ghost use Rattle.outcomes.specs.Served.{saidOn, endedOn, listedOn, saveOutOfRange, outOfRange};
+ghost use Rattle.outcomes.specs.Settled.{storedIf, Settles, Keeps};
 ghost use Rattle.outcomes.specs.Settled as Settled;
 
 // 25, as an operation on the core says it.
@@ -78,6 +80,16 @@ pub fn listed_on(g: Gate, x: Listed) -> Listed
     lists_out_of_range(phones)
 }
 
+// 25, as an operation on the save gives it.
+pub fn save_out_of_range(save: Save) -> Kept
+    ensures { λ r. ⌜ r ≡ saveOutOfRange save ⌝ }
+{
+    Kept {
+        answer: Answer::BadSettings,
+        save,
+    }
+}
+
 // S, with the record of a store.
 fn stored(v: Store) -> ValidationsSignal
     ensures { λ r. ⌜ r ≡ sentS (recordFor (carsOf v)) ⌝ }
@@ -96,14 +108,26 @@ fn raised_by(held: [u8; 9], drawn: [u8; 9], said: Said) -> Raised
     state::replies::showing(digits, told)
 }
 
-// The gate with these lists, and with the digits where the operation marks them.
-fn put(held: [u8; 9], drawn: [u8; 9], said: Said, phones: Phones, signals: Signals) -> Outcome
-    ensures { λ r. ⌜ r ≡ Settled.put held drawn said phones signals ⌝ }
+// The gate with these lists and this save, and with the digits where the operation marks them.
+fn put(
+    held: [u8; 9],
+    drawn: [u8; 9],
+    said: Said,
+    phones: Phones,
+    save: Save,
+    signals: Signals,
+) -> Outcome
+    ensures { λ r. ⌜ r ≡ Settled.put held drawn said phones save signals ⌝ }
 {
     let mark = said.code;
     let code = state::replies::code_at(held, drawn, mark);
     let core = said.core;
-    let gate = Gate { core, phones, code };
+    let gate = Gate {
+        core,
+        phones,
+        save,
+        code,
+    };
     let answer = said.answer;
     Outcome {
         answer,
@@ -124,19 +148,20 @@ fn stored_if(stores: bool, v: Store) -> ValidationsSignal
 
 // What an operation on the core says, where the call drew digits: the lists stay.
 pub fn drew(g: Gate, drawn: [u8; 9], said: Said) -> Outcome
-    ensures { λ r. ⌜ given r ≡ gives packed g (ofCore (view g) drawn said) ⌝ }
+    ensures { λ r. ⌜ given r ≡ gives packed g nothing (ofCore (view g) drawn said) ⌝ }
 {
     let held = g.code;
     let raised = raised_by(held, drawn, said);
     let none = state::replies::no_stored();
     let signals = state::replies::sending(raised, none);
     let phones = g.phones;
-    put(held, drawn, said, phones, signals)
+    let save = g.save;
+    put(held, drawn, said, phones, save, signals)
 }
 
 // The same of a call that draws none.
 pub fn settled(g: Gate, said: Said) -> Outcome
-    ensures { λ r. ⌜ given r ≡ gives packed g (ofCore (view g) noCode said) ⌝ }
+    ensures { λ r. ⌜ given r ≡ gives packed g nothing (ofCore (view g) noCode said) ⌝ }
 {
     let none = [0u8; 9];
     drew(g, none, said)
@@ -157,7 +182,7 @@ fn validated_by(v: Store, e: Ended) -> Store
 
 // What an operation on a session says. S is sent where the session succeeds.
 pub fn ended(g: Gate, e: Ended) -> Outcome
-    ensures { λ r. ⌜ given r ≡ gives packed g (ofSession (view g) e) ⌝ }
+    ensures { λ r. ⌜ given r ≡ gives packed g nothing (ofSession (view g) e) ⌝ }
 {
     let before = g.phones.store;
     let store = validated_by(before, e);
@@ -169,7 +194,8 @@ pub fn ended(g: Gate, e: Ended) -> Outcome
     let signals = state::replies::sending(raised, s);
     let paired = g.phones.paired;
     let phones = Phones { paired, store };
-    put(held, none, said, phones, signals)
+    let save = g.save;
+    put(held, none, said, phones, save, signals)
 }
 
 // What an operation on the lists gives.
@@ -182,8 +208,37 @@ pub fn listed(g: Gate, x: Listed) -> Outcome
     let raised = x.raised;
     let signals = state::replies::sending(raised, s);
     let core = g.core;
+    let save = g.save;
     let code = g.code;
-    let gate = Gate { core, phones, code };
+    let gate = Gate {
+        core,
+        phones,
+        save,
+        code,
+    };
+    let answer = x.answer;
+    Outcome {
+        answer,
+        signals,
+        gate,
+    }
+}
+
+// What an operation on the save gives.
+pub fn kept(g: Gate, x: Kept) -> Outcome
+    ensures { λ r. ⌜ Keeps g x r ⌝ }
+{
+    let signals = state::replies::no_signals();
+    let core = g.core;
+    let phones = g.phones;
+    let save = x.save;
+    let code = g.code;
+    let gate = Gate {
+        core,
+        phones,
+        save,
+        code,
+    };
     let answer = x.answer;
     Outcome {
         answer,

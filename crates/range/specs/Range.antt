@@ -13,6 +13,7 @@ use Rattle.state.specs.declared.Session.{Session}
 use Rattle.state.specs.declared.Validation.{Validation}
 use Rattle.state.specs.declared.Window.{Window}
 use Rattle.state.specs.declared.Core.{Core}
+use Rattle.state.specs.declared.Save.{Save}
 use Rattle.state.specs.View.{View}
 
 -- x is from low to high
@@ -70,6 +71,10 @@ coreFits c =
     && triesFit (c .settings) (c .validation)
     && windowFits (c .probe .window)
 
+-- 02, W-209: of a save that is open, the length of its record, and the position in it
+unfoldable pub saveFits : Save → Bool
+saveFits s = cond (s .present) (within 0 4358 (s .stored .len) && within 0 (s .stored .len) (s .at)) true
+
 -- 01, New gate: a gate out of range gets 25 first. Lists: the counts and lengths of all, and W-207: no digest under two cars
 unfoldable pub inRange : View → Bool
-inRange v = coreFits (v .core) && v .pairedFits && v .storeFits
+inRange v = coreFits (v .core) && v .pairedFits && v .storeFits && saveFits (v .save)

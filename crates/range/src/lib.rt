@@ -9,7 +9,7 @@ use state::Session;
 use state::Settings;
 use state::Window;
 ghost use mathlib.Core.Path.{_≡_};
-ghost use mathlib.Core.Bool.{true, not, cond};
+ghost use mathlib.Core.Bool.{true, not, cond, _&&_};
 ghost use Rattle.saved_record.specs.Steps.{twiceAt};
 ghost use Rattle.state.specs.View.{carInRange, storeInRange, view};
 ghost use Rattle.range.specs.Range as Range;
@@ -221,6 +221,19 @@ fn store_in_range(s: Store) -> bool
     false
 }
 
+// Of a save that is open: the length of its record, and the position in it.
+fn save_fits(present: bool, len: usize, at: usize) -> bool
+    ensures { λ r. ⌜ r ≡ cond present (Range.within 0 4358 len && Range.within 0 len at) true ⌝ }
+{
+    if present {
+        if within(0, 4358, len as u64) {
+            return within(0, len as u64, at as u64);
+        }
+        return false;
+    }
+    true
+}
+
 // Whether a lent gate is served; otherwise every call answers 25.
 pub fn in_range(g: Gate) -> bool
     ensures { λ r. ⌜ r ≡ inRange (view g) ⌝ }
@@ -230,7 +243,9 @@ pub fn in_range(g: Gate) -> bool
         let paired = g.phones.paired;
         if phones::list_in_range(paired) {
             let store = g.phones.store;
-            return store_in_range(store);
+            if store_in_range(store) {
+                return save_fits(g.save.present, g.save.stored.len, g.save.at);
+            }
         }
     }
     false

@@ -41,7 +41,7 @@ use Rattle.replay_lines.specs.Answer.{heldBy}
 use Rattle.replay_lines.specs.Page.{Page, word}
 use Rattle.replay_lines.specs.Room.{Within}
 use Rattle.replay_lines.specs.declared.answer.Held.{Held}
-use Rattle.replay_lines.specs.declared.answer.Held.the-variants.{Fine, Blank, Item, Reply, Wrong}
+use Rattle.replay_lines.specs.declared.answer.Held.the-variants.{Fine, Blank, Item, Part, Reply, Wrong}
 use Rattle.replay_lines.proofs.AnswerRoom.{Owned, method-ids, HeldIn, shown-in, answer-in}
 use Rattle.replay_lines.proofs.StoreRoom.{saved-in}
 use Rattle.replay_lines.proofs.Room.{_⊕_, upto, either, same, text-in, comma-in, item-in, flag-in, word-in, digits-in, id-in, phones-in, method-in}
@@ -113,6 +113,7 @@ seen-in : (h : Held) → HeldIn h → Within 173 (shown (seenIn h))
 seen-in Fine u = upto 173 (lit≤ tt) (word-in (ascii " session=") (ascii "none") 4 (lit≤ tt))
 seen-in Blank u = upto 173 (lit≤ tt) (word-in (ascii " session=") (ascii "none") 4 (lit≤ tt))
 seen-in (Item k n) u = upto 173 (lit≤ tt) (word-in (ascii " session=") (ascii "none") 4 (lit≤ tt))
+seen-in (Part n end) u = upto 173 (lit≤ tt) (word-in (ascii " session=") (ascii "none") 4 (lit≤ tt))
 seen-in (Reply r) u = u
 seen-in (Wrong r) u = upto 173 (lit≤ tt) (word-in (ascii " session=") (ascii "none") 4 (lit≤ tt))
 

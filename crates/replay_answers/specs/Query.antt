@@ -22,7 +22,7 @@ use Rattle.answers.specs.declared.PhonesAnswer.{PhonesAnswer}
 use Rattle.answers.specs.declared.RecordAnswer.{RecordAnswer}
 use Rattle.answers.specs.declared.TrustAnswer.{TrustAnswer}
 use Rattle.replay_lines.specs.declared.answer.Held.{Held}
-use Rattle.replay_lines.specs.declared.answer.Held.the-variants.{Fine, Blank, Item, Reply, Wrong}
+use Rattle.replay_lines.specs.declared.answer.Held.the-variants.{Fine, Blank, Item, Part, Reply, Wrong}
 use Rattle.replay_lines.specs.Answer.{heldBy, reply, answer}
 use Rattle.replay_lines.specs.Page.{Page, _▸_, text, bytes, digits, comma, item, flag, word}
 use Rattle.replay_lines.specs.Parts.{idsFrom, method}
@@ -34,6 +34,7 @@ abbrev pub isFine : Held → Bool
 isFine Fine = true
 isFine Blank = false
 isFine (Item k n) = false
+isFine (Part n end) = false
 isFine (Reply r) = false
 isFine (Wrong r) = false
 
@@ -80,6 +81,7 @@ abbrev pub seenIn : Held → Seen
 seenIn Fine = Missing
 seenIn Blank = Missing
 seenIn (Item k n) = Missing
+seenIn (Part n end) = Missing
 seenIn (Reply r) = Shown r
 seenIn (Wrong r) = Missing
 

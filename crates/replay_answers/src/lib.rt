@@ -40,6 +40,7 @@ fn is_done(a: Answer) -> bool
         Held::Fine => true,
         Held::Blank => false,
         Held::Item(_, _) => false,
+        Held::Part(_, _) => false,
         Held::Reply(_) => false,
         Held::Wrong(_) => false,
     }
@@ -184,6 +185,7 @@ fn seen_in(a: Answer) -> Seen
         Held::Fine => Seen::Missing,
         Held::Blank => Seen::Missing,
         Held::Item(_, _) => Seen::Missing,
+        Held::Part(_, _) => Seen::Missing,
         Held::Reply(r) => Seen::Shown(r),
         Held::Wrong(_) => Seen::Missing,
     }

@@ -48,7 +48,7 @@ module _ {A : Type 0} (f : A → Line) where
 
 -- how many rows each kind has
 abbrev phones : ℕ
-phones = 13
+phones = 14
 
 abbrev cans : ℕ
 cans = 18

@@ -5,8 +5,8 @@ use mathlib.Core.List.{List, [], _∷_, _++_, map}
 use Prim.Native.Nat.{ℕ}
 use lib.ListN.{getD}
 use Rattle.answers.specs.Query.{Query, isCanReadOnly, canReadOnlyReason, isCarIdentityConfirmed, isCarFingerprintConfirmed, canReadWriteApproval, hasCanDevWriteLock, isCanDevWriteUnlocked, canAccessState, platformId, isCanLogging, isCanFdBus, isCanBusReadOnly, isCanBusListenOnly, isPhonePaired, pairedPhoneCount, listPairedPhones, bleMaxBondedPhones, isPhoneValidated, carHasValidatedPhone, phoneTrustLevel, blePeer, encodePhoneValidations, phoneAccessState, validationMethods, sessionFor, currentValidationChallenge}
-use Rattle.definition.specs.Gate.{Call, newGateCall, startValidation, submitValidationCode, onSession, onLists, onCore, ask}
-use Rattle.definition.specs.Gate.{cancelValidation, completeValidationAction, tickValidation, addPairedPhone, removePairedPhone, clearPairedPhones, forgetPhoneValidation, prunePhoneValidations, setBlePeer, restorePhoneValidations, approveCanReadWrite, revokeCanReadWriteApproval, restoreCanReadWriteApproval, setCanDevWriteUnlocked, declareProductionBuild, confirmCarIdentity, revokeCarIdentity, confirmCarFingerprint, setCanReadOnly, openIdentityProbe, closeIdentityProbe, allowCanTx, heardCanFrame, notePlatformId, noteCanLogging, noteCanFdBus, noteMethodAvailable, noteMethodCanContinue}
+use Rattle.definition.specs.Gate.{Call, newGateCall, startValidation, submitValidationCode, onSession, onLists, onSave, onCore, ask}
+use Rattle.definition.specs.Gate.{cancelValidation, completeValidationAction, tickValidation, addPairedPhone, removePairedPhone, clearPairedPhones, forgetPhoneValidation, prunePhoneValidations, setBlePeer, restorePhoneValidations, openPhoneValidationsSave, takePhoneValidationsSave, approveCanReadWrite, revokeCanReadWriteApproval, restoreCanReadWriteApproval, setCanDevWriteUnlocked, declareProductionBuild, confirmCarIdentity, revokeCarIdentity, confirmCarFingerprint, setCanReadOnly, openIdentityProbe, closeIdentityProbe, allowCanTx, heardCanFrame, notePlatformId, noteCanLogging, noteCanFdBus, noteMethodAvailable, noteMethodCanContinue}
 use Rattle.replay_items.specs.Bytes.{Bytes}
 use Rattle.replay_items.specs.declared.Items.{Items}
 
@@ -30,6 +30,7 @@ phoneCalls i b =
     ∷ onLists (forgetPhoneValidation (b .phone))
     ∷ onLists prunePhoneValidations
     ∷ onLists (restorePhoneValidations (b .stored))
+    ∷ onSave openPhoneValidationsSave
     ∷ onCore (setBlePeer (b .phone))
     ∷ []
 
@@ -121,12 +122,13 @@ pub data Line : Type 0 where
 abbrev pub asking : Query → Line
 asking q = call (ask q)
 
--- those that are no calls
+-- those that are no calls, and the call that is lent memory
 unfoldable pub otherLines : Items → Bytes → List Line
 otherLines i b =
     counters (i .numbers .next .value) (i .numbers .relocks .value)
     ∷ state
     ∷ convert (b .stored) (i .switches .target .on) (b .output)
+    ∷ call (onSave (takePhoneValidationsSave (b .output)))
     ∷ []
 
 unfoldable pub otherLine : ℕ → Items → Bytes → Line

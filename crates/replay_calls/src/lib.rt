@@ -33,7 +33,8 @@ pub fn phone_call(g: Gate, name: usize, i: Items, p: Ends, room: &[u8]) -> Outco
         9 => gate_phones::forget_phone_validation(g, phone),
         10 => gate_phones::prune_phone_validations(g),
         11 => gate_phones::restore_phone_validations(g, stored),
-        12 => gate_phones::set_ble_peer(g, phone),
+        12 => gate_phones::open_phone_validations_save(g),
+        13 => gate_phones::set_ble_peer(g, phone),
         _ => gate_sessions::new_gate(settings, list, i.methods.count),
     }
 }

@@ -11,10 +11,11 @@ use Rattle.converter.specs.declared.Conversion.{Conversion}
 use Rattle.converter.specs.declared.Conversion.the-variants.{Done, Malformed, CarTwice, TooLarge, ManyCars, ShortOutput}
 use Rattle.converter.specs.declared.Converted.{Converted}
 use Rattle.converter.proofs.Converted as Converted
+use Rattle.replay_lines.specs.Lent.{mostLent}
 use Rattle.replay_lines.specs.Room.{Within}
 use Rattle.replay_lines.proofs.AnswerRoom.{Owned}
-use Rattle.replay_lines.proofs.Room.{_⊕_, text-in, bytes-in, item-in, word-in}
-use Rattle.replay_conversion.specs.Conversion.{conversionName, conversion, mostLent, conversionRoom}
+use Rattle.replay_lines.proofs.Room.{_⊕_, item-in, word-in, output-in}
+use Rattle.replay_conversion.specs.Conversion.{conversionName, conversion, conversionRoom}
 
 name-in : (c : Conversion) → length (conversionName c) ≤ 14
 name-in Done = lit≤ tt
@@ -29,4 +30,4 @@ pub converted-in : (r : Converted) (vs : List Val) → Owned Converted.the-field
 unfolding conversion
 converted-in r vs h left few =
     word-in (ascii " answer=") (conversionName (r .answer)) 14 (name-in (r .answer)) ⊕ item-in (ascii " room=") (r .room) (omega arith)
-    ⊕ text-in (ascii " output=") ⊕ bytes-in left mostLent few
+    ⊕ output-in left few

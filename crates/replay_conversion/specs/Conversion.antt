@@ -5,7 +5,8 @@ use Rattle.ascii.specs.Ascii.{ascii}
 use Rattle.converter.specs.Convert.{Outcome}
 use Rattle.converter.specs.declared.Conversion.{Conversion}
 use Rattle.converter.specs.declared.Conversion.the-variants.{Done, Malformed, CarTwice, TooLarge, ManyCars, ShortOutput}
-use Rattle.replay_lines.specs.Page.{Page, _▸_, text, bytes, item, word}
+use Rattle.replay_lines.specs.Lent.{output}
+use Rattle.replay_lines.specs.Page.{Page, _▸_, item, word}
 
 abbrev pub conversionName : Conversion → List ℕ
 conversionName Done = ascii "ok"
@@ -16,12 +17,8 @@ conversionName ManyCars = ascii "29/ManyCars"
 conversionName ShortOutput = ascii "30/ShortOutput"
 
 unfoldable pub conversion : Outcome → Page → Page
-conversion o p = p ▸ word (ascii " answer=") (conversionName (o .answer)) ▸ item (ascii " room=") (o .room) ▸ text (ascii " output=") ▸ bytes (o .out)
+conversion o p = p ▸ word (ascii " answer=") (conversionName (o .answer)) ▸ item (ascii " room=") (o .room) ▸ output (o .out)
 
--- how many bytes a line can lend: it has at most 16,384, and each byte is two of them
-abbrev pub mostLent : ℕ
-mostLent = 8192
-
--- room for what is shown then
+-- room for what is shown, of a line that lends as much as it can
 abbrev pub conversionRoom : ℕ
 conversionRoom = 16440

@@ -14,7 +14,7 @@ use denote.Struct.Field.{Field}
 use borrow.Author.Needs.{needs}
 use Rattle.ascii.specs.Ascii.{ascii}
 use Rattle.state.specs.declared.Answer.{Answer}
-use Rattle.state.specs.declared.Answer.the-variants.{Done, Yes, No, Nothing, Count, Number, Reason, Session, UnknownMethod, CarNotIdentified, CoolingDown, OtherPhoneSession, MethodUnavailable, MethodNotAvailableNow, NoRandomSource, NoSession, NotCodeEntry, WrongCode, NoDevLock, NotNeeded, Logging, BusAsleep, Busy, NoAttemptsLeft, Invalid, IdTooLong, RandomSpent, NotText, ListFull, Malformed, TooLarge, BadFrame, BadSettings, CarTwice}
+use Rattle.state.specs.declared.Answer.the-variants.{Done, Yes, No, Nothing, Count, Number, Reason, Session, Taken, UnknownMethod, CarNotIdentified, CoolingDown, OtherPhoneSession, MethodUnavailable, MethodNotAvailableNow, NoRandomSource, NoSession, NotCodeEntry, WrongCode, NoDevLock, NotNeeded, Logging, BusAsleep, Busy, NoAttemptsLeft, Invalid, IdTooLong, RandomSpent, NotText, ListFull, Malformed, TooLarge, BadFrame, BadSettings, CarTwice, NoSave}
 use Rattle.state.specs.Running.{pastMethods}
 use Rattle.state.specs.declared.Method.{Method}
 use Rattle.state.specs.declared.SessionReply.{SessionReply}
@@ -22,11 +22,11 @@ use Rattle.state.proofs.Answer as Answer
 use Rattle.state.proofs.Method as Method
 use Rattle.state.proofs.SessionReply as SessionReply
 use Rattle.replay_lines.specs.declared.answer.Held.{Held}
-use Rattle.replay_lines.specs.declared.answer.Held.the-variants.{Fine, Blank, Item, Reply, Wrong}
+use Rattle.replay_lines.specs.declared.answer.Held.the-variants.{Fine, Blank, Item, Part, Reply, Wrong}
 use Rattle.replay_lines.specs.Answer.{nameOf, heldBy, statusName, reply, behind, answer}
 use Rattle.replay_lines.specs.Room.{Within}
 use Rattle.replay_lines.specs.Table.{keyNames, keys}
-use Rattle.replay_lines.proofs.Room.{_⊕_, upto, same, item-in, word-in, kind-word-in, status-in, short}
+use Rattle.replay_lines.proofs.Room.{_⊕_, upto, same, item-in, flag-in, word-in, kind-word-in, status-in, short}
 
 abbrev pub Owned : (F : Field) → F .Value → List Val → Type 0
 Owned F x vs = Is (F .row) (F .into x) vs
@@ -62,6 +62,7 @@ abbrev pub HeldIn : Held → Type 0
 HeldIn Fine = Unit {0}
 HeldIn Blank = Unit {0}
 HeldIn (Item k n) = n < 2 ^ 64
+HeldIn (Part n end) = n < 2 ^ 64
 HeldIn (Reply r) = Within 173 (reply r)
 HeldIn (Wrong r) = Within 173 (reply r)
 
@@ -74,6 +75,7 @@ shown-in (Count n) vs h = (lit≤ tt, omega arith)
 shown-in (Number n) vs h = (lit≤ tt, omega arith)
 shown-in (Reason n) vs h = (lit≤ tt, omega arith)
 shown-in (Session r) vs h = (lit≤ tt, reply-in r (h .1 .1 .0 .0) (h .1 .1 .1 .1 .0))
+shown-in (Taken n end) vs h = (lit≤ tt, omega arith)
 shown-in UnknownMethod vs h = (lit≤ tt, tt)
 shown-in CarNotIdentified vs h = (lit≤ tt, tt)
 shown-in (CoolingDown n) vs h = (lit≤ tt, omega arith)
@@ -100,11 +102,13 @@ shown-in TooLarge vs h = (lit≤ tt, tt)
 shown-in BadFrame vs h = (lit≤ tt, tt)
 shown-in BadSettings vs h = (lit≤ tt, tt)
 shown-in CarTwice vs h = (lit≤ tt, tt)
+shown-in NoSave vs h = (lit≤ tt, tt)
 
 behind-in : (h : Held) → HeldIn h → Within 173 (behind h)
 behind-in Fine u = same 173
 behind-in Blank u = same 173
 behind-in (Item k n) u = upto 173 (omega (arith, key-in k)) (item-in (getD keys k []) n u)
+behind-in (Part n end) u = upto 173 (lit≤ tt) (item-in (ascii " taken=") n u ⊕ flag-in (ascii " end=") end)
 behind-in (Reply r) u = u
 behind-in (Wrong r) u = u
 

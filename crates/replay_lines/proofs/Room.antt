@@ -22,6 +22,7 @@ use Rattle.state.specs.declared.Method.{Method}
 use Rattle.state.specs.declared.Status.{Status}
 use Rattle.state.specs.declared.Status.the-variants.{InProgress, Succeeded, Failed, Cancelled, TimedOut}
 use Rattle.replay_lines.specs.Answer.{kindName, statusName}
+use Rattle.replay_lines.specs.Lent.{mostLent, output}
 use Rattle.replay_lines.specs.Page.{Page, text, number, bytes, yesNo, comma, item, flag, word, known, digits, digitFrom, hexadecimal}
 use Rattle.replay_lines.specs.Parts.{idAt, idsFrom, method}
 use Rattle.replay_lines.specs.Room.{Within}
@@ -85,6 +86,10 @@ word-in key w k h = text-in key ⊕ upto k h (text-in w)
 pub known-in : (b : Bool) (s : List ℕ) → length s ≤ 32 → Within 64 (known b s)
 unfolding known
 known-in b s h = either b (bytes-in s 32 h) (upto 64 (lit≤ tt) (text-in (ascii "none")))
+
+pub output-in : (s : List ℕ) → length s ≤ mostLent → Within 16392 (output s)
+unfolding output
+output-in s few = text-in (ascii " output=") ⊕ bytes-in s mostLent few
 
 first-in : (s : List ℕ) (n k : ℕ) → length s ≤ k → length (take n s) ≤ k
 first-in s n k h = omega (arith, length-take n s)

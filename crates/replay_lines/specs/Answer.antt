@@ -4,15 +4,15 @@ use Prim.Native.Nat.{ℕ}
 use lib.ListN.{getD}
 use Rattle.ascii.specs.Ascii.{ascii}
 use Rattle.state.specs.declared.Answer.{Answer}
-use Rattle.state.specs.declared.Answer.the-variants.{Done, Yes, No, Nothing, Count, Number, Reason, Session, UnknownMethod, CarNotIdentified, CoolingDown, OtherPhoneSession, MethodUnavailable, MethodNotAvailableNow, NoRandomSource, NoSession, NotCodeEntry, WrongCode, NoDevLock, NotNeeded, Logging, BusAsleep, Busy, NoAttemptsLeft, Invalid, IdTooLong, RandomSpent, NotText, ListFull, Malformed, TooLarge, BadFrame, BadSettings, CarTwice}
+use Rattle.state.specs.declared.Answer.the-variants.{Done, Yes, No, Nothing, Count, Number, Reason, Session, Taken, UnknownMethod, CarNotIdentified, CoolingDown, OtherPhoneSession, MethodUnavailable, MethodNotAvailableNow, NoRandomSource, NoSession, NotCodeEntry, WrongCode, NoDevLock, NotNeeded, Logging, BusAsleep, Busy, NoAttemptsLeft, Invalid, IdTooLong, RandomSpent, NotText, ListFull, Malformed, TooLarge, BadFrame, BadSettings, CarTwice, NoSave}
 use Rattle.state.specs.declared.Kind.{Kind}
 use Rattle.state.specs.declared.Kind.the-variants.{CodeEntry, InCarAction}
 use Rattle.state.specs.declared.SessionReply.{SessionReply}
 use Rattle.state.specs.declared.Status.{Status}
 use Rattle.state.specs.declared.Status.the-variants.{InProgress, Succeeded, Failed, Cancelled, TimedOut}
 use Rattle.replay_lines.specs.declared.answer.Held.{Held}
-use Rattle.replay_lines.specs.declared.answer.Held.the-variants.{Fine, Blank, Item, Reply, Wrong}
-use Rattle.replay_lines.specs.Page.{Page, _▸_, text, item, word}
+use Rattle.replay_lines.specs.declared.answer.Held.the-variants.{Fine, Blank, Item, Part, Reply, Wrong}
+use Rattle.replay_lines.specs.Page.{Page, _▸_, text, item, flag, word}
 use Rattle.replay_lines.specs.Table.{keys, keyOf}
 
 -- the name of an answer, and what it holds
@@ -25,6 +25,7 @@ shownAs (Count n) = (ascii "ok", Item (keyOf " count=") n)
 shownAs (Number n) = (ascii "ok", Item (keyOf " number=") n)
 shownAs (Reason n) = (ascii "ok", Item (keyOf " reason=") n)
 shownAs (Session r) = (ascii "ok", Reply r)
+shownAs (Taken n end) = (ascii "ok", Part n end)
 shownAs UnknownMethod = (ascii "1/UnknownMethod", Blank)
 shownAs CarNotIdentified = (ascii "2/CarNotIdentified", Blank)
 shownAs (CoolingDown n) = (ascii "3/CoolingDown", Item (keyOf " seconds=") n)
@@ -51,6 +52,7 @@ shownAs TooLarge = (ascii "23/TooLarge", Blank)
 shownAs BadFrame = (ascii "24/BadFrame", Blank)
 shownAs BadSettings = (ascii "25/BadSettings", Blank)
 shownAs CarTwice = (ascii "28/CarTwice", Blank)
+shownAs NoSave = (ascii "31/NoSave", Blank)
 
 abbrev pub nameOf : Answer → List ℕ
 nameOf a = shownAs a .0
@@ -85,6 +87,7 @@ abbrev pub behind : Held → Page → Page
 behind Fine p = p
 behind Blank p = p
 behind (Item k n) p = p ▸ item (getD keys k []) n
+behind (Part n end) p = p ▸ item (ascii " taken=") n ▸ flag (ascii " end=") end
 behind (Reply r) p = reply r p
 behind (Wrong r) p = reply r p
 

@@ -64,6 +64,10 @@ keyNames =
     ∷ " marks="
     ∷ " room="
     ∷ " output="
+    ∷ " taken="
+    ∷ " end="
+    ∷ " save="
+    ∷ " at="
     ∷ []
 
 unfoldable pub wordNames : List String
@@ -100,6 +104,7 @@ wordNames =
     ∷ "28/CarTwice"
     ∷ "29/ManyCars"
     ∷ "30/ShortOutput"
+    ∷ "31/NoSave"
     ∷ "code"
     ∷ "action"
     ∷ "in_progress"

@@ -13,11 +13,12 @@ ghost use Rattle.replay_lines.specs.Page.{page};
 ghost use Rattle.replay_lines.specs.Table.{words};
 ghost use Rattle.replay_lines.specs.Answer.{nameOf, kindName, statusName, reply, heldBy, behind, answer};
 
-// What an answer holds; an item is the place of its key and a number.
+// What an answer holds. An item is the place of its key and a number; a part of a save, how many bytes, and whether they are the last.
 pub enum Held {
     Fine,
     Blank,
     Item(usize, u64),
+    Part(u64, bool),
     Reply(SessionReply),
     Wrong(SessionReply),
 }
@@ -37,6 +38,7 @@ pub fn shown_by(a: Answer) -> Shown
         Answer::Number(n) => Shown(0, Held::Item(key::NUMBER, n as u64)),
         Answer::Reason(n) => Shown(0, Held::Item(key::REASON, n as u64)),
         Answer::Session(s) => Shown(0, Held::Reply(s)),
+        Answer::Taken(n, end) => Shown(0, Held::Part(n as u64, end)),
         Answer::UnknownMethod => Shown(4, Held::Blank),
         Answer::CarNotIdentified => Shown(5, Held::Blank),
         Answer::CoolingDown(n) => Shown(6, Held::Item(key::SECONDS, n as u64)),
@@ -63,6 +65,7 @@ pub fn shown_by(a: Answer) -> Shown
         Answer::BadFrame => Shown(27, Held::Blank),
         Answer::BadSettings => Shown(28, Held::Blank),
         Answer::CarTwice => Shown(29, Held::Blank),
+        Answer::NoSave => Shown(32, Held::Blank),
     }
 }
 
@@ -116,6 +119,10 @@ fn put_held(out: &mut [u8], at: usize, h: Held) -> usize
         Held::Fine => at,
         Held::Blank => at,
         Held::Item(k, n) => crate::fields::put_field(out, at, b"", Field::Number(k, n)),
+        Held::Part(n, end) => {
+            let k = crate::fields::put_field(out, at, b"", Field::Number(key::TAKEN, n));
+            crate::fields::put_field(out, k, b"", Field::Flag(key::END, end))
+        }
         Held::Reply(s) => put_reply(out, at, s),
         Held::Wrong(s) => put_reply(out, at, s),
     }

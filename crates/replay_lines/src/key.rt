@@ -1,6 +1,6 @@
 // The keys of the fields, a row to a line, and the place of each.
 
-pub const KEYS: [u8; 602] = *b" answer=
+pub const KEYS: [u8; 628] = *b" answer=
  count=
  number=
  reason=
@@ -56,6 +56,10 @@ pub const KEYS: [u8; 602] = *b" answer=
  marks=
  room=
  output=
+ taken=
+ end=
+ save=
+ at=
 ";
 
 pub const ANSWER: usize = 0;
@@ -169,3 +173,11 @@ pub const MARKS: usize = 53;
 pub const ROOM: usize = 54;
 
 pub const OUTPUT: usize = 55;
+
+pub const TAKEN: usize = 56;
+
+pub const END: usize = 57;
+
+pub const SAVE: usize = 58;
+
+pub const AT: usize = 59;

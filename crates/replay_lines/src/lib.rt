@@ -4,6 +4,7 @@ pub mod answer;
 pub mod cars;
 pub mod fields;
 pub mod key;
+pub mod lent;
 pub mod parts;
 pub mod word;
 

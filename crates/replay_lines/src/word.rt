@@ -1,7 +1,7 @@
 // The words that are values of fields, a row to a line. Document 01's refusal of number n stands at place n + 3, and behind them those of
 // document 02 by their numbers.
 
-pub const WORDS: [u8; 554] = *b"ok
+pub const WORDS: [u8; 564] = *b"ok
 yes
 no
 none
@@ -33,6 +33,7 @@ none
 28/CarTwice
 29/ManyCars
 30/ShortOutput
+31/NoSave
 code
 action
 in_progress
@@ -52,32 +53,32 @@ never
 
 pub const NONE: usize = 3;
 
-pub const CODE: usize = 32;
+pub const CODE: usize = 33;
 
-pub const ACTION: usize = 33;
+pub const ACTION: usize = 34;
 
-pub const IN_PROGRESS: usize = 34;
+pub const IN_PROGRESS: usize = 35;
 
-pub const SUCCEEDED: usize = 35;
+pub const SUCCEEDED: usize = 36;
 
-pub const FAILED: usize = 36;
+pub const FAILED: usize = 37;
 
-pub const CANCELLED: usize = 37;
+pub const CANCELLED: usize = 38;
 
-pub const TIMED_OUT: usize = 38;
+pub const TIMED_OUT: usize = 39;
 
-pub const NOT_APPROVED: usize = 39;
+pub const NOT_APPROVED: usize = 40;
 
-pub const AWAITING_CAR: usize = 40;
+pub const AWAITING_CAR: usize = 41;
 
-pub const APPROVED: usize = 41;
+pub const APPROVED: usize = 42;
 
-pub const OTHER_CAR: usize = 42;
+pub const OTHER_CAR: usize = 43;
 
-pub const NOT_BONDED: usize = 43;
+pub const NOT_BONDED: usize = 44;
 
-pub const BONDED: usize = 44;
+pub const BONDED: usize = 45;
 
-pub const VALIDATED: usize = 45;
+pub const VALIDATED: usize = 46;
 
-pub const NEVER: usize = 46;
+pub const NEVER: usize = 47;

@@ -10,7 +10,7 @@ use Rattle.word_table.specs.Words.{linesOf, restOf, placeIn}
 
 -- A row to a name: the calls of the phones, from `new` on, and those of the bike, from `approve_can_read_write` on; the queries with a
 -- plain answer, from `is_can_read_only` on, and those with a longer one, from `can_read_write_approval` on; the lines that are no
--- calls. replay_calls/specs/Calls.antt has what each makes, in the same order.
+-- calls, from `set_counters` on; the call that is lent memory. replay_calls/specs/Calls.antt has what each makes, in the same order.
 unfoldable pub table : List String
 table =
     "new settings methods"
@@ -25,6 +25,7 @@ table =
     ∷ "forget_phone_validation phone"
     ∷ "prune_phone_validations"
     ∷ "restore_phone_validations record"
+    ∷ "open_phone_validations_save"
     ∷ "set_ble_peer peer"
     ∷ "approve_can_read_write"
     ∷ "revoke_can_read_write_approval"
@@ -73,6 +74,7 @@ table =
     ∷ "set_counters next_session relocks"
     ∷ "state"
     ∷ "convert_phone_validations record target output"
+    ∷ "take_phone_validations_save output"
     ∷ []
 
 -- What a row wants: one item of this key. But `peer` is a phone, which may be `none`; `frame` is frame_bus, kind, id, dlc and

@@ -8,7 +8,7 @@ ghost use Rattle.word_table.specs.Words.{linesOf, restOf, placeIn};
 ghost use Rattle.replay_names.specs.Names as Names;
 ghost use Rattle.replay_names.specs.Names.{rows, keys, exactly, wanted};
 
-const ROWS: [u8; 1516] = *b"new settings methods
+const ROWS: [u8; 1579] = *b"new settings methods
 start_validation phone method now random
 submit_validation_code phone code now
 cancel_validation phone now
@@ -20,6 +20,7 @@ clear_paired_phones
 forget_phone_validation phone
 prune_phone_validations
 restore_phone_validations record
+open_phone_validations_save
 set_ble_peer peer
 approve_can_read_write
 revoke_can_read_write_approval
@@ -68,6 +69,7 @@ encode_phone_validations
 set_counters next_session relocks
 state
 convert_phone_validations record target output
+take_phone_validations_save output
 ";
 
 // The number of a name, or the number of rows.
@@ -81,7 +83,7 @@ pub fn name_of(word: &[u8]) -> usize
 pub fn is_name(name: usize) -> bool
     ensures { λ r. ⌜ r ≡ ltb name (length rows) ⌝ }
 {
-    name < 60
+    name < 62
 }
 
 const KEYS: [u8; 173] = *b"phone

@@ -12,12 +12,12 @@ use Rattle.arrays.specs.Arrays.{sameBytes}
 use Rattle.arrays.proofs.Laws.{both, same-bytes-is}
 use Rattle.ascii.specs.Ascii.{ascii}
 use Rattle.replay_calls.specs.Calls.{lineOf}
-use Rattle.replay_conversion.specs.Conversion.{mostLent}
 use Rattle.replay_items.specs.Bytes.{Bytes, bytesOf}
 use Rattle.replay_items.specs.Items.{readOf}
 use Rattle.replay_items.specs.Takes.{takes}
 use Rattle.replay_items.specs.declared.Items.{Items}
 use Rattle.replay_items.proofs.Together.{output-half}
+use Rattle.replay_lines.specs.Lent.{mostLent}
 use Rattle.replay_lines.specs.Page.{Page}
 use Rattle.replay_lines.specs.Room.{Within}
 use Rattle.replay_lines.proofs.AnswerRoom.{Owned}

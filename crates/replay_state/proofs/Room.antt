@@ -20,6 +20,7 @@ use Rattle.state.specs.declared.Identity.{Identity}
 use Rattle.state.specs.declared.Methods.{Methods}
 use Rattle.state.specs.declared.Phones.{Phones}
 use Rattle.state.specs.declared.Policy.{Policy}
+use Rattle.state.specs.declared.Save.{Save}
 use Rattle.state.specs.declared.Settings.{Settings}
 use Rattle.state.proofs.Access as Access
 use Rattle.state.proofs.Core as Core
@@ -27,14 +28,15 @@ use Rattle.state.proofs.Gate as Gate
 use Rattle.state.proofs.Identity as Identity
 use Rattle.state.proofs.Phones as Phones
 use Rattle.state.proofs.Policy as Policy
+use Rattle.state.proofs.Save as Save
 use Rattle.state.proofs.Settings as Settings
 use Rattle.state.proofs.Validation as Validation
 use Rattle.replay_lines.specs.Room.{Within}
 use Rattle.replay_lines.proofs.AnswerRoom.{Owned, method-ids}
 use Rattle.replay_lines.proofs.Room.{_⊕_, upto, either, same, text-in, known-in, comma-in, item-in, flag-in, word-in, id-in, method-in}
-use Rattle.replay_lines.proofs.StoreRoom.{list-in, cars-in}
+use Rattle.replay_lines.proofs.StoreRoom.{saved-in, list-in, cars-in}
 use Rattle.replay_running.proofs.Room.{session-in, probe-in}
-use Rattle.replay_state.specs.Whole.{settings, methodAt, methodsTo, identity, access, buses, policy, peer, pairings, front, gate}
+use Rattle.replay_state.specs.Whole.{settings, methodAt, methodsTo, identity, access, buses, policy, peer, pairings, front, save, gate}
 
 settings-in : (s : Settings) (vs : List Val) → Owned Settings.the-field s vs → Within 186 (settings s)
 unfolding settings
@@ -91,12 +93,19 @@ front-in c l vs us h k =
     settings-in (c .settings) _ (h .1 .1 .0) ⊕ methods-in (c .methods) (method-ids (c .methods .list) _ (h .1 .1 .1 .0 .1 .1 .0 .1 .1)) 8
     ⊕ policy-in (c .policy) _ (h .1 .1 .1 .1 .0) ⊕ pairings-in l us k ⊕ peer-in (c .peer) _ (h .1 .1 .1 .1 .1 .0)
 
-pub gate-in : (g : Gate) (vs : List Val) → Owned Gate.the-field g vs → Within 12774 (gate g)
+save-in : (s : Save) (vs : List Val) → Owned Save.the-field s vs → Within 8746 (save s)
+unfolding save
+save-in s vs h =
+    either (s .present) (text-in (ascii " save=") ⊕ saved-in (s .stored) _ (h .1 .1 .0) ⊕ item-in (ascii " at=") (s .at) (omega arith))
+    (upto 8746 (lit≤ tt) (word-in (ascii " save=") (ascii "none") 4 (lit≤ tt)))
+
+pub gate-in : (g : Gate) (vs : List Val) → Owned Gate.the-field g vs → Within 21520 (gate g)
 unfolding gate
 gate-in g vs h =
     let core = h .1 .1 .0 in
     let v = core .1 .1 .1 .1 .1 .1 .0 in
-    let code = le-of-eq (length-unmapped ℕ (g .code) 9 (h .1 .1 .1 .1 .0 .1 .0 .1)) in
+    let code = le-of-eq (length-unmapped ℕ (g .code) 9 (h .1 .1 .1 .1 .1 .0 .1 .0 .1)) in
     front-in (g .core) (g .phones) _ _ core (h .1 .1 .1 .0) ⊕ session-in g _ (v .1 .1 .0) code
     ⊕ item-in (ascii " cooldown_until=") (g .core .validation .«cooldown_until») (v .1 .1 .1 .0 .1) ⊕ item-in (ascii " next_session=") (g .core .validation .next) (omega (arith, v .1 .1 .1 .1 .0 .1))
     ⊕ item-in (ascii " tries_left=") (g .core .validation .tries) (omega (arith, v .1 .1 .1 .1 .1 .0 .1)) ⊕ probe-in (g .core .probe) _ (core .1 .1 .1 .1 .1 .1 .1 .0)
+    ⊕ save-in (g .save) _ (h .1 .1 .1 .1 .0)

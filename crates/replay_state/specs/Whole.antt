@@ -2,7 +2,7 @@
 use mathlib.Core.Bool.{false, cond}
 use Prim.Native.Nat.{ℕ, zero, suc}
 use lib.Dec.{eqb, ltb}
-use lib.ListN.{getD}
+use lib.ListN.{getD, take}
 use Rattle.ascii.specs.Ascii.{ascii}
 use Rattle.phones.specs.Phones.{idBytes, phonesOf}
 use Rattle.phones.specs.declared.ShortId.{ShortId}
@@ -16,6 +16,7 @@ use Rattle.state.specs.declared.Identity.{Identity}
 use Rattle.state.specs.declared.Methods.{Methods}
 use Rattle.state.specs.declared.Phones.{Phones}
 use Rattle.state.specs.declared.Policy.{Policy}
+use Rattle.state.specs.declared.Save.{Save}
 use Rattle.state.specs.declared.Settings.{Settings}
 use Rattle.replay_lines.specs.Cars.{cars}
 use Rattle.replay_lines.specs.Page.{Page, _▸_, text, bytes, known, comma, item, flag, word}
@@ -70,8 +71,15 @@ pairings l p = p ▸ idsFrom 0 (phonesOf (l .paired)) ▸ cars (carsOf (l .store
 unfoldable pub front : Core → Phones → Page → Page
 front core l p = p ▸ settings (core .settings) ▸ methodsTo (core .methods) 8 ▸ policy (core .policy) ▸ pairings l ▸ peer (core .peer)
 
+-- a save that is open: its whole record, and how far it was taken
+unfoldable pub save : Save → Page → Page
+save s p =
+    cond (s .present)
+    (p ▸ text (ascii " save=") ▸ bytes (take (s .stored .len) (s .stored .bytes)) ▸ item (ascii " at=") (s .at))
+    (p ▸ word (ascii " save=") (ascii "none"))
+
 unfoldable pub gate : Gate → Page → Page
 gate g p =
     p ▸ front (g .core) (g .phones) ▸ sessionOrNone g
     ▸ item (ascii " cooldown_until=") (g .core .validation .«cooldown_until») ▸ item (ascii " next_session=") (g .core .validation .next)
-    ▸ item (ascii " tries_left=") (g .core .validation .tries) ▸ probe (g .core .probe)
+    ▸ item (ascii " tries_left=") (g .core .validation .tries) ▸ probe (g .core .probe) ▸ save (g .save)

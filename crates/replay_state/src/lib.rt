@@ -11,11 +11,12 @@ use state::Identity;
 use state::Methods;
 use state::Phones;
 use state::Policy;
+use state::Save;
 use state::Settings;
 ghost use mathlib.Core.Path.{_≡_};
 ghost use Prim.Native.Nat.{_<_};
 ghost use Rattle.replay_lines.specs.Page.{page};
-ghost use Rattle.replay_state.specs.Whole.{settings, methodAt, methodsTo, identity, access, buses, policy, peer, pairings, front, gate};
+ghost use Rattle.replay_state.specs.Whole.{settings, methodAt, methodsTo, identity, access, buses, policy, peer, pairings, front, save, gate};
 
 fn put_settings(out: &mut [u8], at: usize, s: Settings) -> usize
     ensures { λ r. ⌜ page (now (out .exit)) r ≡ settings s (page (now (out .entry)) at) ⌝ }
@@ -157,6 +158,18 @@ fn put_front(out: &mut [u8], at: usize, core: Core, l: Phones) -> usize
     put_peer(out, k, id)
 }
 
+fn put_save(out: &mut [u8], at: usize, s: Save) -> usize
+    ensures { λ r. ⌜ page (now (out .exit)) r ≡ save s (page (now (out .entry)) at) ⌝ }
+{
+    if s.present {
+        let all = s.stored.bytes;
+        let len = s.stored.len;
+        let k = replay_lines::fields::put_field(out, at, &all, Field::Bytes(key::SAVE, len));
+        return replay_lines::fields::put_field(out, k, b"", Field::Number(key::AT, s.at as u64));
+    }
+    replay_lines::fields::put_field(out, at, b"", Field::Word(key::SAVE, word::NONE))
+}
+
 pub fn put_gate(out: &mut [u8], at: usize, g: Gate) -> usize
     ensures { λ r. ⌜ page (now (out .exit)) r ≡ gate g (page (now (out .entry)) at) ⌝ }
 {
@@ -176,5 +189,7 @@ pub fn put_gate(out: &mut [u8], at: usize, g: Gate) -> usize
     ];
     let k = replay_lines::fields::put_fields(out, k, b"", fields);
     let w = core.probe;
-    replay_running::probe::put_probe(out, k, w)
+    let k = replay_running::probe::put_probe(out, k, w);
+    let s = g.save;
+    put_save(out, k, s)
 }

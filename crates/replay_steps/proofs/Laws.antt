@@ -1,15 +1,29 @@
--- A query leaves the gate and raises nothing; so much room its line takes.
+-- A query leaves the gate and raises nothing, and what is done with a save raises nothing; so much room their lines take.
 use mathlib.Core.Path.{_≡_, refl}
+use mathlib.Core.Bool.{Bool, true, false, cond}
+use mathlib.Core.List.{List}
+use Prim.Native.Nat.{ℕ, _≤_}
 use lib.Dec.{lit≤}
-use Rattle.answers.specs.Query.{Query}
-use Rattle.definition.specs.Gate.{ask, says, left, gives, step}
+use lib.ListN.{length}
+use mir.Val.{Val}
+use Rattle.answers.specs.Query.{Query, plain}
+use Rattle.definition.specs.Gate.{SaveCall, Lent, onSave, ask, saving, ofSave, asked, served, says, left, packed, gives, lentGiven, step}
+use Rattle.range.specs.Range.{inRange}
 use Rattle.replay_answers.specs.Query.{longRoom}
+use Rattle.replay_lines.specs.Lent.{mostLent}
 use Rattle.replay_lines.specs.Page.{Page}
 use Rattle.replay_lines.specs.Room.{Within}
-use Rattle.replay_lines.proofs.Room.{_⊕_, upto}
+use Rattle.replay_lines.proofs.AnswerRoom.{Owned, answer-in}
+use Rattle.replay_lines.proofs.Room.{_⊕_, upto, output-in}
 use Rattle.replay_signals.specs.Signals.{signals}
+use Rattle.replay_signals.proofs.Room.{no-signals-in}
+use Rattle.save.specs.Save.{Saving}
 use Rattle.state.specs.Replies.{nothingRaised, noSignals}
 use Rattle.state.specs.View.{view}
+use Rattle.state.specs.declared.Answer.the-variants.{BadSettings}
+use Rattle.state.specs.declared.Gate.{Gate}
+use Rattle.state.specs.declared.Outcome.{Outcome}
+use Rattle.state.proofs.Outcome as Outcome
 use Rattle.replay_queries.specs.Shown.{shown}
 use Rattle.replay_steps.specs.Turns.{laid, calm, calmRoom, turnRoom, TurnFits}
 use Rattle.replay_steps.specs.declared.Host.{Host}
@@ -20,3 +34,19 @@ laid-ask h q p = refl
 
 pub ask-fits : (h : Host) (q : Query) → Within longRoom (shown (step (h .gate) (ask q) .answer)) → Within calmRoom (signals noSignals) → TurnFits (laid h (step (h .gate) (ask q)))
 ask-fits h q u v = record { fits = λ p r. rw (laid-ask h q p) (upto turnRoom (lit≤ tt) (u ⊕ v) .fits p r) }
+
+-- ---- a save
+
+-- served or not
+quiet-by : (b : Bool) (g : Gate) (m : Lent) (x : Saving) → gives packed g m (cond b (ofSave (view g) x) (asked (view g) (plain BadSettings))) .signals ≡ noSignals
+unfolding gives nothingRaised noSignals
+quiet-by true g m x = refl
+quiet-by false g m x = refl
+
+pub save-quiet : (g : Gate) (k : SaveCall) → step g (onSave k) .signals ≡ noSignals
+unfolding step says served
+save-quiet g k = quiet-by (inRange (view g)) g _ (saving (view g .lists .store) (view g .save) k)
+
+pub quiet-fits : (h : Host) (o : Outcome) (vs : List Val) → Owned Outcome.the-field o vs → o .signals ≡ noSignals → (lent : List ℕ) → length lent ≤ mostLent → TurnFits (laid h (lentGiven o lent))
+unfolding laid
+quiet-fits h o vs k e lent few = rw e (upto turnRoom (lit≤ tt) (answer-in (o .answer) _ (k .1 .1 .0) ⊕ output-in lent few ⊕ no-signals-in))

@@ -1,10 +1,12 @@
 -- What a call gives that a line says: what the host holds afterwards and the text, by the gate's definition `step`.
+use mathlib.Core.Path.{_≡_}
 use mathlib.Core.Bool.{Bool, true, false}
 use mathlib.Core.List.{List}
 use Prim.Native.Nat.{ℕ}
 use Rattle.converter.specs.Convert.{converted}
-use Rattle.definition.specs.Gate.{Given, given, step}
+use Rattle.definition.specs.Gate.{Lent, nothing, bytes, Given, given, step}
 use Rattle.replay_conversion.specs.Conversion.{conversion}
+use Rattle.replay_lines.specs.Lent.{output}
 use Rattle.replay_lines.specs.Page.{Page, page, _▸_}
 use Rattle.replay_lines.specs.Room.{Within}
 use Rattle.replay_signals.specs.Signals.{signals}
@@ -40,9 +42,14 @@ passed h at = record { host = h; at = at; called = false }
 abbrev pub withGate : Host → Gate → Host
 withGate h g = record { gate = g }
 
--- what a call gives: its answer with the values, and the signals
+-- lent memory, as it was left
+abbrev pub lentShown : Lent → Page → Page
+lentShown nothing p = p
+lentShown (bytes b) p = output b p
+
+-- what a call gives: its answer with the values, the memory that it was lent, and the signals
 unfoldable pub laid : Host → Given → Page → Turn
-laid h d p = record { host = withGate h (d .gate); page = p ▸ shown (d .answer) ▸ signals (d .signals); called = true }
+laid h d p = record { host = withGate h (d .gate); page = p ▸ shown (d .answer) ▸ lentShown (d .lent) ▸ signals (d .signals); called = true }
 
 -- an answer that raises nothing
 abbrev pub answerAlone : Gate → Answer → Outcome
@@ -57,6 +64,7 @@ abbrev pub withCounters : Gate → ℕ → ℕ → Gate
 withCounters g next relocks = record {
   core = withProbe (withValidation (g .core) (withNext (g .core .validation) next)) (withRelocks (g .core .probe) relocks);
   phones = g .phones;
+  save = g .save;
   code = g .code;
 }
 
@@ -78,3 +86,7 @@ turnRoom = 24000
 
 abbrev pub TurnFits : (Page → Turn) → Type 0
 TurnFits f = Within turnRoom (λ (p : Page). f p .page)
+
+-- what the code hands back is what f gives from a page on, and none of that is left out
+abbrev pub Lays : (Page → Turn) → Page → Played → List ℕ → Type 0
+Lays f p r memory = (turnOf r memory ≡ f p) × TurnFits f

@@ -8,15 +8,15 @@ use state::Outcome;
 ghost use mathlib.Core.Path.{_≡_};
 ghost use Prim.Native.Nat.{_≤_};
 ghost use lib.ListN.{length};
-ghost use Rattle.definition.specs.Gate.{given};
-ghost use Rattle.replay_conversion.specs.Conversion.{mostLent};
+ghost use Rattle.definition.specs.Gate.{given, onSave, takePhoneValidationsSave};
 ghost use Rattle.replay_items.specs.Bytes.{lentBytes};
+ghost use Rattle.replay_lines.specs.Lent.{mostLent};
 ghost use Rattle.replay_lines.specs.Page.{page};
 ghost use Rattle.replay_lines.specs.Room.{Within};
 ghost use Rattle.replay_signals.specs.Signals.{signals};
 ghost use Rattle.state.specs.Replies.{noSignals};
-ghost use Rattle.replay_calls.specs.Calls.{lineOf, otherLine};
-ghost use Rattle.replay_steps.specs.Turns.{turnOf, withGate, answerAlone, laid, calm, withCounters, ran, passed, calmRoom, TurnFits};
+ghost use Rattle.replay_calls.specs.Calls.{call, lineOf, otherLine};
+ghost use Rattle.replay_steps.specs.Turns.{turnOf, withGate, answerAlone, laid, calm, withCounters, ran, passed, calmRoom, Lays};
 
 // What the host of a script holds from line to line.
 pub struct Host {
@@ -51,7 +51,7 @@ fn with_gate(h: Host, gate: Gate) -> Host
 }
 
 fn put_outcome(h: Host, o: Outcome, out: &mut [u8], at: usize) -> Played
-    ensures { λ r. ⌜ (turnOf r (now (out .exit)) ≡ laid h (given o) (page (now (out .entry)) at)) × TurnFits (laid h (given o)) ⌝ }
+    ensures { λ r. ⌜ Lays (laid h (given o)) (page (now (out .entry)) at) r (now (out .exit)) ⌝ }
 {
     let a = o.answer;
     let k = replay_lines::answer::put_answer(out, at, a);
@@ -91,10 +91,12 @@ fn set_counters(g: Gate, next: u32, relocks: u32) -> Gate
     let one = state::parts::with_validation(core, v);
     let both = state::parts::with_probe(one, p);
     let phones = g.phones;
+    let save = g.save;
     let code = g.code;
     Gate {
         core: both,
         phones,
+        save,
         code,
     }
 }
@@ -110,7 +112,24 @@ pub fn not_called(h: Host, at: usize) -> Played
     }
 }
 
-// The lines that are no calls, by their place.
+// Takes the next bytes of a save into a copy of the lent ones, and lays down what that gives. It raises nothing.
+fn put_take(h: Host, lent: &[u8], out: &mut [u8], at: usize) -> Played
+    requires { ⌜ length (now lent) ≤ mostLent ⌝ }
+    ensures { λ r. ⌜ Lays (ran (call (onSave (takePhoneValidationsSave (now (lent .entry))))) h) (page (now (out .entry)) at) r (now (out .exit)) ⌝ }
+{
+    let n = lent.len();
+    let mut copy = replay_lines::lent::copy_of(lent);
+    let g = h.gate;
+    let o = gate_phones::take_phone_validations_save(g, &mut copy[..n]);
+    let a = o.answer;
+    let k = replay_lines::answer::put_answer(out, at, a);
+    let k = replay_lines::lent::put_output(out, k, &copy[..n]);
+    let left = o.gate;
+    let next = with_gate(h, left);
+    put_calm(next, out, k)
+}
+
+// The lines that are no calls, and the call that is lent memory, by their place.
 fn run_other(
     h: Host,
     name: usize,
@@ -121,9 +140,10 @@ fn run_other(
     at: usize,
 ) -> Played
     requires { ⌜ length (lentBytes p (now room) .output) ≤ mostLent ⌝ }
-    ensures { λ r. ⌜ (turnOf r (now (out .exit)) ≡ ran (otherLine name i (lentBytes p (now (room .entry)))) h (page (now (out .entry)) at)) × TurnFits (ran (otherLine name i (lentBytes p (now (room .entry)))) h) ⌝ }
+    ensures { λ r. ⌜ Lays (ran (otherLine name i (lentBytes p (now (room .entry)))) h) (page (now (out .entry)) at) r (now (out .exit)) ⌝ }
 {
     let g = h.gate;
+    let lent = replay_items::bytes::lent(room, p.owner, p.output);
     match name {
         0 => {
             let n = i.numbers;
@@ -136,18 +156,18 @@ fn run_other(
         }
         2 => {
             let saved = replay_items::bytes::lent(room, p.code, p.stored);
-            let lent = replay_items::bytes::lent(room, p.owner, p.output);
             let two = i.switches.target.on;
             let k = replay_conversion::put_conversion(out, at, saved, two, lent);
             put_calm(h, out, k)
         }
+        3 => put_take(h, lent, out, at),
         _ => not_called(h, at),
     }
 }
 
 // How many rows each kind has: the calls of the phones and those of the bike, the queries with a plain answer and those with a
 // longer one.
-const PHONE_CALLS: usize = 13;
+const PHONE_CALLS: usize = 14;
 
 const CAN_CALLS: usize = 18;
 
@@ -166,7 +186,7 @@ pub fn run(
     at: usize,
 ) -> Played
     requires { ⌜ length (lentBytes p (now room) .output) ≤ mostLent ⌝ }
-    ensures { λ r. ⌜ (turnOf r (now (out .exit)) ≡ ran (lineOf name i (lentBytes p (now (room .entry)))) h (page (now (out .entry)) at)) × TurnFits (ran (lineOf name i (lentBytes p (now (room .entry)))) h) ⌝ }
+    ensures { λ r. ⌜ Lays (ran (lineOf name i (lentBytes p (now (room .entry)))) h) (page (now (out .entry)) at) r (now (out .exit)) ⌝ }
 {
     let g = h.gate;
     if name < PHONE_CALLS {

@@ -1,10 +1,10 @@
 -- The round trip of `saved_record` carried over to the calls.
 use Prim.Native.Nat.{ℕ, _≤_}
 use mathlib.Core.Path.{_≡_, refl, ap, sym, _∙_}
-use mathlib.Core.Bool.{Bool, true, false, cond, false≢true}
+use mathlib.Core.Bool.{Bool, true, false, cond, false≢true, and-eq-true-iff}
 use mathlib.Core.List.{List, [], _∷_}
 use native.Mathlib.Omega.{arith}
-use borrow.Author.Tests.{eqb-true, ne-eqb}
+use borrow.Author.Tests.{ne-eqb}
 use lib.Dec.{eqb}
 use lib.ListN.{length}
 use Rattle.arrays.specs.Arrays.{sameBytes}
@@ -12,25 +12,25 @@ use Rattle.arrays.proofs.Laws.{both, padded-take}
 use Rattle.phones.specs.Ids.{someOf, allOf, contains}
 use Rattle.phones.proofs.Search.{none-cons}
 use Rattle.phone_fields.proofs.Laws.{anyEmpty}
-use Rattle.saved_record.specs.SavedRecord.{CarIds, Reading, malformed, carTwice, tooLarge, ok, over, encoded, recordOf, decoded}
+use Rattle.saved_record.specs.SavedRecord.{CarIds, Reading, malformed, carTwice, tooLarge, ok, encoded, recordOf, decoded}
 use Rattle.saved_record.specs.Store.{carsOf, storeOf}
 use Rattle.saved_record.proofs.Laws.{cars-of-store}
-use Rattle.saved_record.proofs.Parts.{Digests, lacking, unreadable}
+use Rattle.saved_record.proofs.Parts.{lacking, unreadable}
 use Rattle.saved_record.proofs.RoundTrip.{accepted-well-formed, reads-back, written-back, version-one, at-most-4358}
 use Rattle.state.specs.declared.Gate.{Gate}
 use Rattle.state.specs.declared.Answer.the-variants.{Done, BadSettings}
-use Rattle.state.specs.View.{view}
+use Rattle.state.specs.View.{view, storeInRange}
 use Rattle.range.specs.Range.{inRange}
-use Rattle.range.proofs.Stores.{someFit, ids-fit, carFits, store-fits}
+use Rattle.range.proofs.Stores.{someFit, carFits, CarsFit, store-fits}
 use Rattle.validations.specs.Store.{recordFor, restore}
 use Rattle.validations.specs.Store as Store
 use Rattle.answers.specs.Answers.{recordAnswer}
 use Rattle.answers.specs.Query.{plain, answerTo}
-use Rattle.definition.specs.Gate.{ofLists, asked, served, listing, says, laidReply, left, gives, onLists, restorePhoneValidations, step}
-use Rattle.stays_in_range.specs.Stays.{Sized, InRange}
-use Rattle.stays_in_range.proofs.Parts.{fits}
-use Rattle.stays_in_range.proofs.Cars.{over-is, accepted-fits}
-use Rattle.stays_in_range.proofs.Proved.{stays-in-range}
+use Rattle.definition.specs.Gate.{ofLists, asked, served, listing, says, laidReply, left, gives, step}
+use Rattle.stays_in_range.specs.Stays.{InRange}
+use Rattle.stays_in_range.proofs.Parts.{digests-of}
+use Rattle.stays_in_range.proofs.Cars.{store-in, accepted-fits}
+use Rattle.stays_in_range.proofs.Digests.{none-over}
 use Rattle.round_trip.specs.Trip.{Saves, used, restoring, doneWith, SavedRestores, RestoredSaves, OlderSaves}
 
 -- ---- the two calls
@@ -42,6 +42,16 @@ saves g r = rw r
 restores : (h : Gate) (bytes : List ℕ) (cs : List CarIds) → InRange h → decoded bytes ≡ ok cs → restoring h bytes ≡ doneWith h (storeOf cs)
 unfolding step gives says served listing left view restore
 restores h bytes cs r e = rw (r, e)
+
+-- ---- the range of a gate's store, and of a gate with another
+
+store-of : (g : Gate) → InRange g → storeInRange (g .phones .store) ≡ true
+unfolding inRange view
+store-of g r = (simp and-eq-true-iff at r) .0 .1
+
+with-store : (h : Gate) (cs : List CarIds) → InRange h → CarsFit cs → InRange (doneWith h (storeOf cs) .gate)
+unfolding inRange view
+with-store h cs r f = let p = simp and-eq-true-iff at r in rw (p .0 .0 .0, p .0 .0 .1, store-in cs f, p .1)
 
 -- ---- what was saved is restored
 
@@ -66,24 +76,12 @@ all-readable (c ∷ cs) f h =
     let q = both (carFits c) _ f in
     rw (none-lacking (c .phones) (q .0) (p .0)) (all-readable cs (q .1) (p .1))
 
-none-over : (cs : List CarIds) → allOf carFits cs ≡ true → over cs ≡ false
-unfolding over someOf allOf
-none-over [] f = refl
-none-over (c ∷ cs) f =
-    let q = both (carFits c) _ f in
-    rw (over-is (c .phones), ids-fit (c .phones) (q .0)) (none-over cs (q .1))
-
-each-digest : (cs : List CarIds) → allOf (λ (c : CarIds). eqb (length (c .car)) 32) cs ≡ true → Digests cs
-unfolding allOf
-each-digest [] h = tt
-each-digest (c ∷ cs) h = let p = both (eqb (length (c .car)) 32) _ h in (eqb-true (length (c .car)) 32 (p .0), each-digest cs (p .1))
-
 pub saved-restores : SavedRestores
 unfolding recordFor recordOf
 saved-restores g h r s t =
     let cs = carsOf (g .phones .store) in
-    let f = store-fits (g .phones .store) (fits g r .store) in
-    let back = reads-back cs (t .many) (f .few) (each-digest cs (t .digests)) (f .apart) (all-readable cs (f .each) (t .named)) (none-over cs (f .each)) in
+    let f = store-fits (g .phones .store) (store-of g r) in
+    let back = reads-back cs (t .many) (f .few) (digests-of cs (t .digests)) (f .apart) (all-readable cs (f .each) (t .named)) (none-over cs (f .each)) in
     let w = recordFor cs in
     (w, saves g r, restores h (used w) cs s (ap decoded (padded-take 4358 0 (encoded cs)) ∙ back))
 
@@ -103,12 +101,6 @@ taken h bytes d = go (inRange (view h)) refl (decoded bytes) refl d
     go true r tooLarge e d = absurd (false≢true cc)
     go false r x e d = absurd (false≢true cc)
 
-restore-sized : (bytes : List ℕ) → Sized (onLists (restorePhoneValidations bytes))
-restore-sized bytes = record {
-  new = λ settings methods count e. absurd (false≢true cc);
-  probe = λ bus frames count clock e. absurd (false≢true cc);
-}
-
 -- what the gate answers afterwards, if these are the bytes of the cars that it took
 written : (h : Gate) (bytes again : List ℕ) (cs : List CarIds) → InRange h → decoded bytes ≡ ok cs → encoded cs ≡ again
     → (length again ≤ 4358) × Saves (restoring h bytes .gate) (recordOf again)
@@ -116,7 +108,7 @@ unfolding recordFor
 written h bytes again cs r e w =
     let a = accepted-well-formed bytes cs e in
     let f = accepted-fits bytes cs e in
-    let next = stays-in-range h (onLists (restorePhoneValidations bytes)) (restore-sized bytes) r in
+    let next : InRange (restoring h bytes .gate) = rw (restores h bytes cs r e) (with-store h cs r f) in
     let out : recordFor (carsOf (restoring h bytes .gate .phones .store)) ≡ recordOf again = rw (restores h bytes cs r e, cars-of-store cs, w) in
     (rw w at (at-most-4358 cs (f .few) (a .0 .digests) (a .2)), rw out at (saves (restoring h bytes .gate) next))
 

@@ -4,9 +4,8 @@ use Prim.Native.Nat.{ℕ, _≤_, _<_}
 use mathlib.Core.Path.{_≡_}
 use mathlib.Core.Bool.{true, false}
 use mathlib.Core.List.{List, [], _∷_}
-use lib.Dec.{eqb}
 use lib.ListN.{length, take}
-use Rattle.phones.specs.Ids.{someOf, allOf, contains}
+use Rattle.phones.specs.Ids.{someOf, contains}
 use Rattle.saved_record.specs.declared.SavedRecord.{SavedRecord}
 use Rattle.saved_record.specs.declared.Store.{Store}
 use Rattle.saved_record.specs.SavedRecord.{CarIds, recordOf}
@@ -17,7 +16,7 @@ use Rattle.state.specs.Answers.{numbered}
 use Rattle.state.specs.Replies.{noS, phoneAccessChanged, sending}
 use Rattle.answers.specs.Query.{plain, saved, encodePhoneValidations}
 use Rattle.definition.specs.Gate.{Given, nothing, onLists, ask, restorePhoneValidations, step}
-use Rattle.stays_in_range.specs.Stays.{InRange}
+use Rattle.stays_in_range.specs.Stays.{InRange, digestsOf32}
 
 -- the gate answers done and this record
 abbrev pub Saves : Gate → SavedRecord → Type 0
@@ -38,12 +37,12 @@ doneWith h s = record {
   answer = plain Done;
   signals = sending phoneAccessChanged noS;
   lent = nothing;
-  gate = record { core = h .core; phones = record { paired = h .phones .paired; store = s }; code = h .code };
+  gate = record { core = h .core; phones = record { paired = h .phones .paired; store = s }; save = h .save; code = h .code };
 }
 
 -- a store with something to save: one car or more, and no id that is empty under any; and what its type gives, car is a [u8; 32]
 pub record Storable (cs : List CarIds) : Type 0 where
-  pub digests : allOf (λ (c : CarIds). eqb (length (c .car)) 32) cs ≡ true
+  pub digests : digestsOf32 cs ≡ true
   pub many : 0 < length cs
   pub named : someOf (λ (c : CarIds). contains [] (c .phones)) cs ≡ false
 

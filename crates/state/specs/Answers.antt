@@ -1,8 +1,9 @@
 -- Document 01's number and values of each answer.
+use mathlib.Core.Bool.{Bool}
 use Prim.Native.Nat.{ℕ}
 use Rattle.state.specs.declared.SessionReply.{SessionReply}
 use Rattle.state.specs.declared.Answer.{Answer}
-use Rattle.state.specs.declared.Answer.the-variants.{Done, Yes, No, Nothing, Count, Number, Reason, Session, UnknownMethod, CarNotIdentified, CoolingDown, OtherPhoneSession, MethodUnavailable, MethodNotAvailableNow, NoRandomSource, NoSession, NotCodeEntry, WrongCode, NoDevLock, NotNeeded, Logging, BusAsleep, Busy, NoAttemptsLeft, Invalid, IdTooLong, RandomSpent, NotText, ListFull, Malformed, TooLarge, BadFrame, BadSettings, CarTwice}
+use Rattle.state.specs.declared.Answer.the-variants.{Done, Yes, No, Nothing, Count, Number, Reason, Session, Taken, UnknownMethod, CarNotIdentified, CoolingDown, OtherPhoneSession, MethodUnavailable, MethodNotAvailableNow, NoRandomSource, NoSession, NotCodeEntry, WrongCode, NoDevLock, NotNeeded, Logging, BusAsleep, Busy, NoAttemptsLeft, Invalid, IdTooLong, RandomSpent, NotText, ListFull, Malformed, TooLarge, BadFrame, BadSettings, CarTwice, NoSave}
 
 -- 0 for one that is no refusal
 abbrev pub number : Answer → ℕ
@@ -14,6 +15,7 @@ number (Count n) = 0
 number (Number n) = 0
 number (Reason n) = 0
 number (Session r) = 0
+number (Taken n end) = 0
 number UnknownMethod = 1
 number CarNotIdentified = 2
 number (CoolingDown s) = 3
@@ -40,12 +42,14 @@ number TooLarge = 23
 number BadFrame = 24
 number BadSettings = 25
 number CarTwice = 28
+number NoSave = 31
 
 -- what stands beside the number: nothing; done, yes, no or none; or a value
 pub data Values : Type 0 where
   noValue done yes no none : Values
   count platform reason seconds : ℕ → Values
   session : SessionReply → Values
+  taken : ℕ → Bool → Values
 
 abbrev pub values : Answer → Values
 values Done = done
@@ -56,6 +60,7 @@ values (Count n) = count n
 values (Number n) = platform n
 values (Reason n) = reason n
 values (Session r) = session r
+values (Taken n end) = taken n end
 values UnknownMethod = noValue
 values CarNotIdentified = noValue
 values (CoolingDown s) = seconds s
@@ -82,6 +87,7 @@ values TooLarge = noValue
 values BadFrame = noValue
 values BadSettings = noValue
 values CarTwice = noValue
+values NoSave = noValue
 
 pub record Numbered : Type 0 where
   pub number : ℕ

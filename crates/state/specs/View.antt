@@ -13,6 +13,7 @@ use Rattle.saved_record.specs.SavedRecord.{CarIds, twice}
 use Rattle.saved_record.specs.Store.{carsOf, storeOf}
 use Rattle.state.specs.declared.Core.{Core}
 use Rattle.state.specs.declared.Phones.{Phones}
+use Rattle.state.specs.declared.Save.{Save}
 use Rattle.state.specs.declared.Gate.{Gate}
 use Rattle.state.specs.declared.Answer.{Answer}
 use Rattle.state.specs.declared.Raised.{Raised}
@@ -32,6 +33,7 @@ pub record View : Type 0 where
   pub lists : Lists
   pub pairedFits : Bool
   pub storeFits : Bool
+  pub save : Save
   pub code : List ℕ
 
 -- ---- what is said of the lists
@@ -67,6 +69,7 @@ view g = record {
   lists = listsIn (g .phones);
   pairedFits = listInRange (g .phones .paired);
   storeFits = storeInRange (g .phones .store);
+  save = g .save;
   code = g .code;
 }
 

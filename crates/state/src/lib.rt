@@ -142,9 +142,17 @@ pub struct Phones {
     pub store: Store,
 }
 
+// A save of the record, as it was when the save was opened (W-209); its first `at` bytes were handed out. Not present: none is open, and zeros.
+pub struct Save {
+    pub stored: SavedRecord,
+    pub at: usize,
+    pub present: bool,
+}
+
 pub struct Gate {
     pub core: Core,
     pub phones: Phones,
+    pub save: Save,
     pub code: [u8; 9],
 }
 
@@ -169,6 +177,7 @@ pub enum Answer {
     Number(u32),
     Reason(u8),
     Session(SessionReply),
+    Taken(usize, bool),
     UnknownMethod,
     CarNotIdentified,
     CoolingDown(u32),
@@ -195,6 +204,7 @@ pub enum Answer {
     BadFrame,
     BadSettings,
     CarTwice,
+    NoSave,
 }
 
 // CAN_READ_ONLY_WATCH.

@@ -1,5 +1,6 @@
 pub mod Parts
 pub mod Cars
+pub mod Digests
 pub mod Calls
 pub mod Proved
 pub mod Needed

@@ -1,16 +1,21 @@
--- A gate in range, part by part; what keeps the parts of a core in range; and what holds whichever way a call goes.
+-- A gate in range whose digests have 32 bytes, part by part; what keeps the parts of a core in range; and what holds whichever way a call goes.
 use Prim.Native.Nat.{ℕ, _-_, _≤_}
 use mathlib.Core.Path.{_≡_, refl}
 use mathlib.Core.Bool.{Bool, true, false, cond, and-eq-true-iff}
 use mathlib.Core.List.{List, [], _∷_}
 use native.Mathlib.Omega.{arith}
-use borrow.Author.Tests.{ltb-true, ltb-false, le-ltb, not-true}
-use lib.Dec.{ltb}
+use borrow.Author.Tests.{eqb-true, ltb-true, ltb-false, le-ltb, not-true}
+use lib.Dec.{eqb, ltb}
 use lib.ListN.{length, take, length-take}
 use lib.Seq.{length-take-le}
+use Rattle.arrays.proofs.Laws.{both}
 use Rattle.phones.specs.declared.ShortId.{ShortId}
+use Rattle.phones.specs.Ids.{allOf}
 use Rattle.phones.specs.Phones.{idBytes, tooLong, idInRange, listInRange}
 use Rattle.frames.specs.declared.ProbeFrame.{ProbeFrame}
+use Rattle.saved_record.specs.SavedRecord.{CarIds}
+use Rattle.saved_record.specs.Store.{carsOf}
+use Rattle.saved_record.proofs.Parts.{Digests}
 use Rattle.state.specs.declared.Methods.{Methods}
 use Rattle.state.specs.declared.Settings.{Settings}
 use Rattle.state.specs.declared.Session.{Session}
@@ -20,11 +25,23 @@ use Rattle.state.specs.declared.Answer.{Answer}
 use Rattle.state.specs.Running.{inProgress}
 use Rattle.state.specs.Checks.{Check, _refuses_, checked, unmet}
 use Rattle.state.specs.View.{View, view, storeInRange}
-use Rattle.range.specs.Range.{within, settingsFit, methodsFit, triesFit, sessionFits, windowFits, coreFits, inRange}
+use Rattle.range.specs.Range.{within, settingsFit, methodsFit, triesFit, sessionFits, windowFits, coreFits, saveFits, inRange}
 use Rattle.probe_window.specs.Window.{newWindow}
 use Rattle.range.proofs.Laws.{within-is}
 use Rattle.definition.specs.Gate.{Says, left}
-use Rattle.stays_in_range.specs.Stays.{InRange}
+use Rattle.stays_in_range.specs.Stays.{digestsOf32, SizedGate, InRange}
+
+-- ---- digests of 32 bytes, by a test and one by one
+
+pub digests-of : (cs : List CarIds) → digestsOf32 cs ≡ true → Digests cs
+unfolding allOf
+digests-of [] h = tt
+digests-of (c ∷ cs) h = let p = both (eqb (length (c .car)) 32) _ h in (eqb-true (length (c .car)) 32 (p .0), digests-of cs (p .1))
+
+of-digests : (cs : List CarIds) → Digests cs → digestsOf32 cs ≡ true
+unfolding allOf
+of-digests [] h = refl
+of-digests (c ∷ cs) h = rw (h .0) (of-digests cs (h .1))
 
 -- ---- the parts
 
@@ -35,26 +52,41 @@ pub record Fitting (c : Core) : Type 0 where
   pub session : sessionFits (c .methods) (c .validation .session) ≡ true
   pub tries : triesFit (c .settings) (c .validation) ≡ true
   pub window : windowFits (c .probe .window) ≡ true
+  pub identified : length (c .policy .identity .car .digest) ≡ 32
+  pub car : length (c .validation .session .car) ≡ 32
 
 pub record Fits (g : Gate) : Type 0 where
   pub core : Fitting (g .core)
   pub paired : listInRange (g .phones .paired) ≡ true
   pub store : storeInRange (g .phones .store) ≡ true
+  pub save : saveFits (g .save) ≡ true
+  pub digests : Digests (carsOf (g .phones .store))
 
-pub fits : (g : Gate) → InRange g → Fits g
+pub fits : (g : Gate) → SizedGate g → InRange g → Fits g
 unfolding view inRange coreFits
-fits g h =
+fits g z h =
     let p = simp and-eq-true-iff at h in
-    let c = p .0 .0 in
+    let c = p .0 .0 .0 in
     record {
-      core = record { settings = c .0 .0 .0 .0 .0; methods = c .0 .0 .0 .0 .1; peer = c .0 .0 .0 .1; session = c .0 .0 .1; tries = c .0 .1; window = c .1 };
-      paired = p .0 .1;
-      store = p .1;
+      core = record {
+        settings = c .0 .0 .0 .0 .0;
+        methods = c .0 .0 .0 .0 .1;
+        peer = c .0 .0 .0 .1;
+        session = c .0 .0 .1;
+        tries = c .0 .1;
+        window = c .1;
+        identified = z .identified;
+        car = z .session;
+      };
+      paired = p .0 .0 .1;
+      store = p .0 .1;
+      save = p .1;
+      digests = digests-of (carsOf (g .phones .store)) (z .stored);
     }
 
-pub in-range : (g : Gate) → Fits g → InRange g
+pub in-range : (g : Gate) → Fits g → InRange g × SizedGate g
 unfolding view inRange coreFits
-in-range g h = let c = h .core in rw (c .settings, c .methods, c .peer, c .session, c .tries, c .window, h .paired, h .store)
+in-range g h = let c = h .core in (rw (c .settings, c .methods, c .peer, c .session, c .tries, c .window, h .paired, h .store, h .save), record { stored = of-digests (carsOf (g .phones .store)) (h .digests); identified = c .identified; session = c .car })
 
 -- ---- numbers and ids
 

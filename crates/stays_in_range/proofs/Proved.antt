@@ -13,6 +13,7 @@ use Rattle.phones.specs.Ids.{allOf}
 use Rattle.phones.specs.Phones.{idBytes, idOf}
 use Rattle.phones.proofs.Laws.{bytes-of-id}
 use Rattle.phones.proofs.Range.{id-range}
+use Rattle.saved_record.proofs.Laws.{cars-of-store}
 use Rattle.state.specs.declared.Method.{Method}
 use Rattle.state.specs.declared.Settings.{Settings}
 use Rattle.state.specs.declared.Methods.{Methods}
@@ -20,15 +21,16 @@ use Rattle.state.specs.declared.Gate.{Gate}
 use Rattle.state.specs.declared.Said.{Said}
 use Rattle.state.specs.Running.{noMethod, cleanMethod}
 use Rattle.state.specs.View.{view}
-use Rattle.range.specs.Range.{within, methodFits, allFit, methodsIn, methodsFit, settingsFit, sessionFits, triesFit, windowFits}
+use Rattle.range.specs.Range.{within, methodFits, allFit, methodsIn, methodsFit, settingsFit, sessionFits, triesFit, windowFits, saveFits}
 use Rattle.range.proofs.Laws.{within-is}
+use Rattle.save.specs.Save.{noSave}
 use Rattle.new_gate.specs.New.{newMethods, newCore, leastSettings, Made, madeCore}
-use Rattle.definition.specs.Gate.{Call, Says, saying, ofCore, served, says, left, gives, step, after, afterAll}
+use Rattle.definition.specs.Gate.{Call, newGateCall, Says, saying, ofCore, served, says, left, gives, step, after, afterAll}
 use Rattle.definition.specs.Gate as Gate
-use Rattle.stays_in_range.specs.Stays.{IdsOf32, SizedMethods, Sized, AllSized, InRange, NewInRange, StaysInRange, AlwaysInRange}
+use Rattle.stays_in_range.specs.Stays.{IdsOf32, SizedMethods, Sized, AllSized, SizedGate, InRange, NewInRange, StaysInRange, AlwaysInRange}
 use Rattle.stays_in_range.proofs.Parts.{Fitting, Fits, fits, in-range, full-fits, Holds, cases}
 use Rattle.stays_in_range.proofs.Cars.{empty-store, empty-list}
-use Rattle.stays_in_range.proofs.Calls.{fit-listing, SaidFits, fit-start, fit-submit, fit-ended, fit-said}
+use Rattle.stays_in_range.proofs.Calls.{fit-listing, fit-saving, SaidFits, fit-start, fit-submit, fit-ended, fit-said}
 
 -- ---- the methods of a new gate
 
@@ -66,7 +68,16 @@ new-methods-fit ms count z h =
 new-core-fits : (settings : Settings) (m : Methods) → settingsFit settings ≡ true → methodsFit m ≡ true → Fitting (newCore settings m)
 unfolding newCore sessionFits triesFit windowFits
 new-core-fits settings m s h =
-    record { settings = s; methods = h; peer = id-range [] (omega arith); session = refl; tries = full-fits settings s; window = refl }
+    record {
+      settings = s;
+      methods = h;
+      peer = id-range [] (omega arith);
+      session = refl;
+      tries = full-fits settings s;
+      window = refl;
+      identified = refl;
+      car = refl;
+    }
 
 made-fits : (settings : Settings) (methods : List Method) (count : ℕ) → SizedMethods methods → Fitting (madeCore settings methods count .core)
 unfolding madeCore settingsFit within methodsFit methodsIn newMethods allFit allOf
@@ -75,42 +86,44 @@ made-fits settings methods count z =
     (λ e. let p = and-eq-true-iff (settingsFit settings) _ .0 e in new-core-fits settings (newMethods methods count) (p .0) (new-methods-fit methods count z (p .1)))
     (λ e. new-core-fits leastSettings (newMethods [] 0) refl refl)
 
+new-fits : (g : Gate) (settings : Settings) (methods : List Method) (count : ℕ) → SizedMethods methods → Fits (after g (newGateCall settings methods count))
+unfolding step gives left says saveFits noSave
+new-fits g settings methods count z =
+    record { core = made-fits settings methods count z; paired = empty-list; store = empty-store; save = refl; digests = rw (cars-of-store []) tt }
+
 pub new-in-range : NewInRange
-unfolding step gives left says
-new-in-range g settings methods count z = in-range _ (record { core = made-fits settings methods count z; paired = empty-list; store = empty-store })
+new-in-range g settings methods count z = in-range _ (new-fits g settings methods count z) .0
 
 -- ---- every call
 
-module _ (g : Gate) (r : InRange g) where
-  h : Fits g
-  h = fits g r
-
-  served-in : (s : Says) → Fits (left g s) → InRange (left g (served (view g) s))
+module _ (g : Gate) (r : InRange g) (h : Fits g) where
+  served-in : (s : Says) → Fits (left g s) → Fits (left g (served (view g) s))
   unfolding served
-  served-in s f = rw r (in-range _ f)
+  served-in s f = rw r f
 
-  core-in : (drawn : List ℕ) (o : Said) → Holds SaidFits o → InRange (left g (served (view g) (ofCore (view g) drawn o)))
+  core-in : (drawn : List ℕ) (o : Said) → Holds SaidFits o → Fits (left g (served (view g) (ofCore (view g) drawn o)))
   unfolding saying left view
   core-in drawn o f = served-in _ (search h)
 
-  stays-in : (k : Call) → Sized k → InRange (after g k)
+  stays-in : (k : Call) → Sized k → Fits (after g k)
   unfolding step gives says view left
-  stays-in (Gate.newGateCall settings methods count) z = new-in-range g settings methods count (z .new settings methods count refl)
+  stays-in (Gate.newGateCall settings methods count) z = new-fits g settings methods count (z .new settings methods count refl)
   stays-in (Gate.startValidation phone method clock random) z = core-in _ _ (fit-start (g .core) (h .core) phone method clock _ _)
   stays-in (Gate.submitValidationCode phone typed clock) z = served-in _ (fit-submit g h phone clock _ _ _ .holds)
   stays-in (Gate.onSession k) z = served-in _ (fit-ended g h _ k .holds)
   stays-in (Gate.onLists k) z = served-in _ (fit-listing g h k .holds)
+  stays-in (Gate.onSave k) z = served-in _ (fit-saving g h k .holds)
   stays-in (Gate.onCore k) z = core-in _ _ (fit-said (view g) (h .core) k z)
-  stays-in (Gate.ask q) z = r
+  stays-in (Gate.ask q) z = h
 
 pub stays-in-range : StaysInRange
-stays-in-range g k z r = stays-in g r k z
+stays-in-range g k z s r = in-range _ (stays-in g r (fits g s r) k z)
 
 -- ---- any calls
 
-all-in-range : (ks : List Call) (g : Gate) → AllSized ks → InRange g → InRange (afterAll g ks)
-all-in-range [] g z r = r
-all-in-range (k ∷ ks) g z r = all-in-range ks (after g k) (z .1) (stays-in g r k (z .0))
+pub all-in-range : (ks : List Call) (g : Gate) → AllSized ks → InRange g × SizedGate g → InRange (afterAll g ks)
+all-in-range [] g z p = p .0
+all-in-range (k ∷ ks) g z p = all-in-range ks (after g k) (z .1) (stays-in-range g k (z .0) (p .1) (p .0))
 
 pub always-in-range : AlwaysInRange
-always-in-range g settings methods count ks z zs = all-in-range ks _ zs (new-in-range g settings methods count z)
+always-in-range g settings methods count ks z zs = all-in-range ks _ zs (in-range _ (new-fits g settings methods count z))

@@ -33,6 +33,7 @@ use Rattle.state.specs.View as View
 use Rattle.state.specs.Replies as Replies
 use Rattle.policy.specs.Policy as Policy
 use Rattle.validations.specs.Store as Store
+use Rattle.save.specs.Save as Save
 use Rattle.session_times.specs.Times as Times
 use Rattle.session.specs.Session as Session
 use Rattle.validation.specs.Calls as Validation
@@ -41,8 +42,8 @@ use Rattle.answers.specs.Query as Query
 use Rattle.answers.specs.Query.{Reply, plain}
 use Rattle.new_gate.specs.New as New
 use Rattle.definition.specs.Gate as Gate
-use Rattle.definition.specs.Gate.{Call, newGateCall, startValidation, submitValidationCode, onSession, onLists, onCore, ask, Given, after}
-use Rattle.two_runs.specs.Demand.{blanked, hideGate, hideChallenge, hideSignals, hideReply, seen, run, codeRuns, Alike, starts, submits, news, sessionCalls, listCalls, coreCalls, asks, TwoRuns, end, next, judgedWrong, begins, Tally, parts, sessions, AlikeGates}
+use Rattle.definition.specs.Gate.{Call, newGateCall, startValidation, submitValidationCode, onSession, onLists, onSave, onCore, ask, Given, after}
+use Rattle.two_runs.specs.Demand.{blanked, hideGate, hideChallenge, hideSignals, hideReply, seen, run, codeRuns, Alike, starts, submits, news, sessionCalls, listCalls, saveCalls, coreCalls, asks, TwoRuns, end, next, judgedWrong, begins, Tally, parts, sessions, AlikeGates}
 use Rattle.two_runs.specs.Refills as Refills
 use Rattle.two_runs.proofs.Digits.{same-length, same-past}
 
@@ -54,6 +55,7 @@ self g (startValidation phone method clock random) = starts phone method clock r
 self g (submitValidationCode phone typed clock) = submits phone clock typed typed (λ f. refl) (λ x j. refl)
 self g (onSession k) = sessionCalls k
 self g (onLists k) = listCalls k
+self g (onSave k) = saveCalls k
 self g (onCore k) = coreCalls k
 self g (ask q) = asks q
 
@@ -84,6 +86,7 @@ ready = record {
     buses = made .policy .buses;
   });
   phones = record { paired = listOf []; store = storeOf [] };
+  save = Save.noSave;
   code = Replies.noCode;
 }
 
@@ -179,7 +182,7 @@ pub record Examples : Type 0 where
   pub shared : answersOf (run ready two-phones) ≡ two-phones-answers
 
 pub examples : Examples
-unfolding padded sameBytes contains idBytes idInRange idOf idsIn joined listInRange listOf phonesOf someOf tooLong digits drawLimit drawn firstBelow group decode encode encodeAll Utf8.within isText right trim trimFront trimmed white Range.within Range.settingsFit allOf Range.printable Range.methodFits Range.allFit Range.methodsIn Range.methodsFit Running.methodAt Running.cleanMethod Running.inProgress Running.codeInProgress Range.triesFit Range.sessionFits Range.windowFits Range.coreFits Range.inRange View.view View.carInRange View.storeInRange carsOf storeOf twice Store.phonesFor Replies.reply Replies.notified Replies.finish Policy.fingerprintConfirmed Policy.isIdentified Store.isFull Times.saturatingAdd Times.secondsTo Session.secondsOf Session.replyOf Session.endedAs Session.isOf Session.lostReadWrite Session.noteAt Session.cannotGoOn Session.lapseOf Session.placeFrom Session.placeOf checked Validation.endSession Validation.runsFor Validation.startChecks Validation.newSession Validation.begin Validation.startAt Validation.start Validation.refilled Validation.succeededCore Validation.succeed Validation.failedCore Validation.triedCore Validation.wrong Validation.rightCode Validation.judge Validation.submitted Validation.submit New.newMethods New.newCore Gate.saying Gate.served Gate.says Gate.left Gate.gives Gate.step begins judgedWrong blanked hideGate codeRuns Refills.refills Validation.cancel Gate.ended isDigit isSeparator beginsDigit isDropped ungroupedFrom ungrouped
+unfolding padded sameBytes contains idBytes idInRange idOf idsIn joined listInRange listOf phonesOf someOf tooLong digits drawLimit drawn firstBelow group decode encode encodeAll Utf8.within isText right trim trimFront trimmed white Range.within Range.settingsFit allOf Range.printable Range.methodFits Range.allFit Range.methodsIn Range.methodsFit Running.methodAt Running.cleanMethod Running.inProgress Running.codeInProgress Range.triesFit Range.sessionFits Range.windowFits Range.coreFits Range.saveFits Range.inRange Save.noSave View.view View.carInRange View.storeInRange carsOf storeOf twice Store.phonesFor Replies.reply Replies.notified Replies.finish Policy.fingerprintConfirmed Policy.isIdentified Store.isFull Times.saturatingAdd Times.secondsTo Session.secondsOf Session.replyOf Session.endedAs Session.isOf Session.lostReadWrite Session.noteAt Session.cannotGoOn Session.lapseOf Session.placeFrom Session.placeOf checked Validation.endSession Validation.runsFor Validation.startChecks Validation.newSession Validation.begin Validation.startAt Validation.start Validation.refilled Validation.succeededCore Validation.succeed Validation.failedCore Validation.triedCore Validation.wrong Validation.rightCode Validation.judge Validation.submitted Validation.submit New.newMethods New.newCore Gate.saying Gate.served Gate.says Gate.left Gate.gives Gate.step begins judgedWrong blanked hideGate codeRuns Refills.refills Validation.cancel Gate.ended isDigit isSeparator beginsDigit isDropped ungroupedFrom ungrouped
 examples = record {
   two =
       next (starts phone method 1_000 random-1234 random-0007 (λ d. (refl, refl)))
@@ -261,6 +264,7 @@ pub record OnlyDigits (o p : Given) : Type 0 where
   pub lent : o .lent ≡ p .lent
   pub core : o .gate .core ≡ p .gate .core
   pub phones : o .gate .phones ≡ p .gate .phones
+  pub save : o .gate .save ≡ p .gate .save
   pub long : length (o .gate .code) ≡ length (p .gate .code)
   pub past : drop (o .gate .core .settings .digits) (o .gate .code) ≡ drop (o .gate .core .settings .digits) (p .gate .code)
 
@@ -294,6 +298,7 @@ only-digits o p e =
       lent = λ i. e i .lent;
       core = c;
       phones = λ i. e i .gate .phones;
+      save = λ i. e i .gate .save;
       long = same-length n (o .gate .code) (p .gate .code) b;
       past = same-past n (o .gate .code) (p .gate .code) b;
     }

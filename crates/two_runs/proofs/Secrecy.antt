@@ -18,10 +18,11 @@ use Rattle.state.specs.Answers.{numbered}
 use Rattle.state.specs.Replies.{noCode, codeAt, sending, showing}
 use Rattle.state.specs.View.{View, Listing, view, laidPhones}
 use Rattle.range.specs.Range.{inRange}
+use Rattle.save.specs.Save.{Saving}
 use Rattle.validation.specs.Calls.{submit}
 use Rattle.answers.specs.Query.{Reply, plain}
-use Rattle.definition.specs.Gate.{Call, Says, saying, asked, served, ofSession, ofLists, says, fullFor, nothing, left, gives, packed, step, after}
-use Rattle.two_runs.specs.Demand.{blanked, hideGate, hideChallenge, hideSignals, seen, run, codeRuns, isRight, comesToDraw, judges, Alike, starts, submits, news, sessionCalls, listCalls, coreCalls, asks, TwoRuns, end, next, EqualButDigits, AlikeGates, StayAlike, over, place, LookAlike}
+use Rattle.definition.specs.Gate.{Call, Says, saying, asked, served, ofSession, ofLists, ofSave, says, fullFor, Lent, lentTo, lentAfter, left, gives, packed, step, after}
+use Rattle.two_runs.specs.Demand.{blanked, hideGate, hideChallenge, hideSignals, seen, run, codeRuns, isRight, comesToDraw, judges, Alike, starts, submits, news, sessionCalls, listCalls, saveCalls, coreCalls, asks, TwoRuns, end, next, EqualButDigits, AlikeGates, StayAlike, over, place, LookAlike}
 use Rattle.two_runs.proofs.Digits.{blanked-drawn}
 use Rattle.two_runs.proofs.Turns.{Shown, Marked, Fit, tries-fit, turn-core, turn-session}
 use Rattle.two_runs.proofs.Sessions.{started, submitted-as, passes, start-by, submit-by}
@@ -31,11 +32,11 @@ use Rattle.two_runs.proofs.Queries.{recoded, SameReply, answer-as}
 
 -- the same gate with other digits
 abbrev recodedGate : Gate → List ℕ → Gate
-recodedGate g other = record { core = g .core; phones = g .phones; code = other }
+recodedGate g other = record { core = g .core; phones = g .phones; save = g .save; code = other }
 
--- what is said looks alike, and without a running CodeEntry session there are no digits to differ
-record Twin (g : Gate) (other : List ℕ) (s t : Says) : Type 0 where
-  look : seen (gives packed g s) ≡ seen (gives packed g t)
+-- what is said looks alike, m and n being the lent memory, and without a running CodeEntry session there are no digits to differ
+record Twin (g : Gate) (other : List ℕ) (m n : Lent) (s t : Says) : Type 0 where
+  look : seen (gives packed g m s) ≡ seen (gives packed g n t)
   stay : (codeRuns (g .core) ≡ false → g .code ≡ other) → codeRuns (s .core) ≡ false → s .code ≡ t .code
 
 module _ (g : Gate) (other : List ℕ) (e : blanked (g .core .settings .digits) (g .code) ≡ blanked (g .core .settings .digits) other) where
@@ -45,30 +46,49 @@ module _ (g : Gate) (other : List ℕ) (e : blanked (g .core .settings .digits) 
   abbrev there : View
   there = recoded (view g) other
 
-  twin-asked : (r r′ : Reply (List (List ℕ))) → SameReply r r′ → Twin g other (asked here r) (asked there r′)
+  twin-asked : {m : Lent} (r r′ : Reply (List (List ℕ))) → SameReply r r′ → Twin g other m m (asked here r) (asked there r′)
   unfolding seen gives left hideGate view
-  twin-asked r r′ a = record {
-    look = λ i. record { numbered = a .0 i; answer = a .1 i; signals = seen (gives packed g (asked here r)) .signals; lent = nothing; gate = record { core = g .core; phones = g .phones; code = e i } };
+  twin-asked {m} r r′ a = record {
+    look = λ i. record {
+      numbered = a .0 i;
+      answer = a .1 i;
+      signals = seen (gives packed g m (asked here r)) .signals;
+      lent = lentAfter m stays;
+      gate = record { core = g .core; phones = g .phones; save = g .save; code = e i };
+    };
     stay = λ held r. held r;
   }
 
-  twin-served : (s t : Says) → (inRange here ≡ true → Twin g other s t) → Twin g other (served here s) (served there t)
+  twin-served : {m : Lent} (s t : Says) → (inRange here ≡ true → Twin g other m m s t) → Twin g other m m (served here s) (served there t)
   unfolding served inRange
-  twin-served s t h = go (inRange here) h
+  twin-served {m} s t h = go (inRange here) h
     where
-      go : (b : Bool) → (b ≡ true → Twin g other s t) → Twin g other (cond b s (asked here (plain BadSettings))) (cond b t (asked there (plain BadSettings)))
+      go : (b : Bool) → (b ≡ true → Twin g other m m s t) → Twin g other m m (cond b s (asked here (plain BadSettings))) (cond b t (asked there (plain BadSettings)))
       go true h = h refl
       go false h = twin-asked (plain BadSettings) (plain BadSettings) (refl, refl)
 
-  twin-lists : (x : Listing) → Twin g other (ofLists here x) (ofLists there x)
+  twin-lists : {m : Lent} (x : Listing) → Twin g other m m (ofLists here x) (ofLists there x)
   unfolding seen gives left hideGate view
-  twin-lists x = record {
+  twin-lists {m} x = record {
     look = λ i. record {
       numbered = numbered (x .answer);
       answer = plain (x .answer);
-      signals = seen (gives packed g (ofLists here x)) .signals;
-      lent = nothing;
-      gate = record { core = g .core; phones = laidPhones (g .phones) (x .paired) (x .store); code = e i };
+      signals = seen (gives packed g m (ofLists here x)) .signals;
+      lent = lentAfter m stays;
+      gate = record { core = g .core; phones = laidPhones (g .phones) (x .paired) (x .store); save = g .save; code = e i };
+    };
+    stay = λ held r. held r;
+  }
+
+  twin-save : {m : Lent} (x : Saving) → Twin g other m m (ofSave here x) (ofSave there x)
+  unfolding seen gives left hideGate view
+  twin-save {m} x = record {
+    look = λ i. record {
+      numbered = numbered (x .answer);
+      answer = plain (x .answer);
+      signals = seen (gives packed g m (ofSave here x)) .signals;
+      lent = lentAfter m (x .lent);
+      gate = record { core = g .core; phones = g .phones; save = x .save; code = e i };
     };
     stay = λ held r. held r;
   }
@@ -89,30 +109,30 @@ module _ (g : Gate) (other : List ℕ) (e : blanked (g .core .settings .digits) 
     unmarked c Kept f held r = held (sym f ∙ r)
     unmarked c Fresh f held r = absurd (true≢false (sym f ∙ r))
 
-    twin-said : (o o′ : Said) → Fit (g .core) o → o ≡ o′ → (b : Bool) (x : Left (List CarIds)) → Twin g other (saying here drew o b x) (saying there drew′ o′ b x)
+    twin-said : {m : Lent} (o o′ : Said) → Fit (g .core) o → o ≡ o′ → (b : Bool) (x : Left (List CarIds)) → Twin g other m m (saying here drew o b x) (saying there drew′ o′ b x)
     unfolding saying seen gives left hideGate hideSignals hideChallenge view
-    twin-said o o′ f p b x =
+    twin-said {m} o o′ f p b x =
         let c : blanked (o .core .settings .digits) (codeAt (g .code) drew (o .code)) ≡ blanked (o .core .settings .digits) (codeAt other drew′ (o .code)) = rw (f .settings) (placed (o .code)) in
         let s = shown (o .raised .challenge .challenge .length) (o .shows) (f .shows) in
-        subst (λ (z : Said). Twin g other (saying here drew o b x) (saying there drew′ z b x)) p
+        subst (λ (z : Said). Twin g other m m (saying here drew o b x) (saying there drew′ z b x)) p
         (record {
           look = λ i. record {
             numbered = numbered (o .answer);
             answer = plain (o .answer);
-            signals = sending (showing (s i) (o .raised)) (gives packed g (saying here drew o b x) .signals .validations);
-            lent = nothing;
-            gate = record { core = o .core; phones = laidPhones (g .phones) stays x; code = c i };
+            signals = sending (showing (s i) (o .raised)) (gives packed g m (saying here drew o b x) .signals .validations);
+            lent = lentAfter m stays;
+            gate = record { core = o .core; phones = laidPhones (g .phones) stays x; save = g .save; code = c i };
           };
           stay = unmarked (o .core) (o .code) (f .code);
         })
 
-  twin-ended : (x y : Ended) → Fit (g .core) (x .said) → x ≡ y → Twin g other (ofSession here x) (ofSession there y)
+  twin-ended : {m : Lent} (x y : Ended) → Fit (g .core) (x .said) → x ≡ y → Twin g other m m (ofSession here x) (ofSession there y)
   unfolding view
-  twin-ended x y f p = subst (λ (z : Ended). Twin g other (ofSession here x) (ofSession there z)) p (twin-said noCode noCode refl (x .said) (x .said) f refl (x .validates) _)
+  twin-ended {m} x y f p = subst (λ (z : Ended). Twin g other m m (ofSession here x) (ofSession there z)) p (twin-said noCode noCode refl (x .said) (x .said) f refl (x .validates) _)
 
   -- ---- every call
 
-  twin : {c d : Call} → Alike g (recodedGate g other) c d → Twin g other (says here c) (says there d)
+  twin : {c d : Call} → Alike g (recodedGate g other) c d → Twin g other (lentTo c) (lentTo d) (says here c) (says there d)
   unfolding says view comesToDraw judges
   twin (starts phone method clock r s a) =
       let n = g .core .settings .digits in
@@ -125,6 +145,7 @@ module _ (g : Gate) (other : List ℕ) (e : blanked (g .core .settings .digits) 
   twin (news settings methods count) = record { look = refl; stay = λ held r. refl }
   twin (sessionCalls k) = twin-served _ _ (λ f. twin-ended _ _ (turn-session (g .core) _ k .fit) refl)
   twin (listCalls k) = twin-served _ _ (λ f. twin-lists _)
+  twin (saveCalls k) = twin-served _ _ (λ f. twin-save _)
   twin (coreCalls k) = twin-served _ _ (λ f. twin-said noCode noCode refl _ _ (turn-core (g .core) _ k .fit) refl false stays)
   twin (asks q) = twin-asked _ _ (answer-as here other e q)
 
@@ -135,7 +156,7 @@ record Match (g h : Gate) (c d : Call) : Type 0 where
 
 match : (g h : Gate) {c d : Call} → EqualButDigits g h → Alike g h c d → Match g h c d
 unfolding hideGate step gives left view seen
-match g h {c} {d} e = subst (λ (z : Gate). Alike g z c d → Match g z c d) (λ i. record { core = e i .core; phones = e i .phones; code = h .code }) of
+match g h {c} {d} e = subst (λ (z : Gate). Alike g z c d → Match g z c d) (λ i. record { core = e i .core; phones = e i .phones; save = e i .save; code = h .code }) of
   where
     codes : blanked (g .core .settings .digits) (g .code) ≡ blanked (g .core .settings .digits) (h .code)
     codes = (λ i. e i .code) ∙ sym (λ i. blanked (e i .core .settings .digits) (h .code))
@@ -145,7 +166,7 @@ match g h {c} {d} e = subst (λ (z : Gate). Alike g z c d → Match g z c d) (λ
         let t = twin g (h .code) codes a in
         record {
           look = t .look;
-          stay = λ held r. let k = t .stay held r in λ i. record { core = t .look i .gate .core; phones = t .look i .gate .phones; code = k i };
+          stay = λ held r. let k = t .stay held r in λ i. record { core = t .look i .gate .core; phones = t .look i .gate .phones; save = t .look i .gate .save; code = k i };
         }
 
 -- ---- the list

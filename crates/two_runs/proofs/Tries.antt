@@ -107,6 +107,7 @@ start-last g (Gate.startValidation phone method clock random) e = zero-le
 start-last g (Gate.submitValidationCode phone typed clock) e = absurd (false≢true e)
 start-last g (Gate.onSession k) e = zero-le
 start-last g (Gate.onLists k) e = zero-le
+start-last g (Gate.onSave k) e = zero-le
 start-last g (Gate.onCore k) e = zero-le
 start-last g (Gate.ask q) e = zero-le
 
@@ -126,6 +127,7 @@ session-takes g (Gate.submitValidationCode phone typed clock) e =
     (λ f. submitted-as (g .core) (tries-fit (view g) f .0) clock phone (isText typed) (isRight g typed) (fullFor (view g)) .paid)
 session-takes g (Gate.onSession k) e = at-gate triesLeft g _ (λ n. 0) refl (λ f. turn-session (g .core) _ k .paid)
 session-takes g (Gate.onLists k) e = at-gate triesLeft g _ (λ n. 0) refl (λ f. none-more _ _ (le-refl _))
+session-takes g (Gate.onSave k) e = at-gate triesLeft g _ (λ n. 0) refl (λ f. none-more _ _ (le-refl _))
 session-takes g (Gate.onCore k) e = at-gate triesLeft g _ (λ n. 0) refl (λ f. turn-core (g .core) _ k .paid)
 session-takes g (Gate.ask q) e = none-more _ _ (le-refl _)
 
@@ -161,6 +163,7 @@ refill-last g (Gate.startValidation phone method clock random) e = zero-le
 refill-last g (Gate.submitValidationCode phone typed clock) e = one-judged g _
 refill-last g (Gate.onSession k) e = zero-le
 refill-last g (Gate.onLists k) e = zero-le
+refill-last g (Gate.onSave k) e = zero-le
 refill-last g (Gate.onCore k) e = zero-le
 refill-last g (Gate.ask q) e = zero-le
 
@@ -179,6 +182,7 @@ gate-takes g (Gate.onSession k) e =
     at-gate gateTries g _ (λ n. 0) refl
     (λ f. turn-session (g .core) _ k .kept (sym (ap (λ (s : Says). sessionRefills k (numberedReply (laidReply (s .answer)) .values)) (served-in (view g) _ f)) ∙ e))
 gate-takes g (Gate.onLists k) e = at-gate gateTries g _ (λ n. 0) refl (λ f. none-more _ _ (le-refl _))
+gate-takes g (Gate.onSave k) e = at-gate gateTries g _ (λ n. 0) refl (λ f. none-more _ _ (le-refl _))
 gate-takes g (Gate.onCore k) e = at-gate gateTries g _ (λ n. 0) refl (λ f. turn-core (g .core) _ k .kept refl)
 gate-takes g (Gate.ask q) e = none-more _ _ (le-refl _)
 

@@ -70,7 +70,7 @@ pub record Turn (c : Core) (wrong : ℕ) (refills : Bool) (o : Said) : Type 0 wh
 
 pub tries-fit : (v : View) → inRange v ≡ true → (1 ≤ v .core .validation .tries) × (v .core .validation .tries ≤ v .core .settings .tries)
 unfolding inRange coreFits triesFit
-tries-fit v f = within-is _ _ _ ((simp and-eq-true-iff at f) .0 .0 .0 .1)
+tries-fit v f = within-is _ _ _ ((simp and-eq-true-iff at f) .0 .0 .0 .0 .1)
 
 -- ---- an operation that keeps the settings, the methods and the session
 

@@ -20,7 +20,7 @@ use Rattle.text.specs.Text.{isText, right}
 use Rattle.validation.specs.Calls.{draws, tick}
 use Rattle.answers.specs.Query as Query
 use Rattle.answers.specs.Query.{Query, Reply, numberedReply}
-use Rattle.definition.specs.Gate.{SessionCall, ListCall, CoreCall, Call, newGateCall, startValidation, submitValidationCode, onSession, onLists, onCore, ask, Given, isLent, step, after}
+use Rattle.definition.specs.Gate.{SessionCall, ListCall, SaveCall, CoreCall, Call, newGateCall, startValidation, submitValidationCode, onSession, onLists, onSave, onCore, ask, Given, isLent, step, after}
 
 -- ---- what is left out: the digits, and not their number
 
@@ -32,7 +32,7 @@ blanked (suc n) (b ∷ bs) = 0 ∷ blanked n bs
 
 -- the code length stands in the core, and is kept
 unfoldable pub hideGate : Gate → Gate
-hideGate g = record { core = g .core; phones = g .phones; code = blanked (g .core .settings .digits) (g .code) }
+hideGate g = record { core = g .core; phones = g .phones; save = g .save; code = blanked (g .core .settings .digits) (g .code) }
 
 unfoldable pub hideChallenge : Challenge → Challenge
 hideChallenge c = record { running = c .running; session = c .session; method = c .method; length = c .length; code = blanked (c .length) (c .code) }
@@ -105,6 +105,7 @@ pub data Alike (g h : Gate) : Call → Call → Type 0 where
   news : (settings : Settings) (methods : List Method) (count : ℕ) → Alike g h (newGateCall settings methods count) (newGateCall settings methods count)
   sessionCalls : (k : SessionCall) → Alike g h (onSession k) (onSession k)
   listCalls : (k : ListCall) → Alike g h (onLists k) (onLists k)
+  saveCalls : (k : SaveCall) → Alike g h (onSave k) (onSave k)
   coreCalls : (k : CoreCall) → Alike g h (onCore k) (onCore k)
   asks : (q : Query) → Alike g h (ask q) (ask q)
 
@@ -126,6 +127,7 @@ judgedWrong (startValidation phone method clock random) a = 0
 judgedWrong (submitValidationCode phone typed clock) a = cond (eqb (numberOf a) 10) 1 0
 judgedWrong (onSession k) a = 0
 judgedWrong (onLists k) a = 0
+judgedWrong (onSave k) a = 0
 judgedWrong (onCore k) a = 0
 judgedWrong (ask q) a = 0
 
@@ -136,6 +138,7 @@ begins (startValidation phone method clock random) a = eqb (numberOf a) 0
 begins (submitValidationCode phone typed clock) a = false
 begins (onSession k) a = false
 begins (onLists k) a = false
+begins (onSave k) a = false
 begins (onCore k) a = false
 begins (ask q) a = false
 

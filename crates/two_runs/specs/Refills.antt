@@ -8,9 +8,9 @@ use Rattle.phones.specs.declared.PhoneList.{PhoneList}
 use Rattle.state.specs.declared.Status.{Status}
 use Rattle.state.specs.declared.Status.the-variants.{InProgress, Succeeded, Failed, Cancelled, TimedOut}
 use Rattle.state.specs.declared.Gate.{Gate}
-use Rattle.state.specs.Answers.{Values, noValue, done, yes, no, none, count, platform, reason, seconds, session}
+use Rattle.state.specs.Answers.{Values, noValue, done, yes, no, none, count, platform, reason, seconds, session, taken}
 use Rattle.answers.specs.Query.{Reply, numberedReply}
-use Rattle.definition.specs.Gate.{SessionCall, cancelValidation, completeValidationAction, tickValidation, Call, newGateCall, startValidation, submitValidationCode, onSession, onLists, onCore, ask}
+use Rattle.definition.specs.Gate.{SessionCall, cancelValidation, completeValidationAction, tickValidation, Call, newGateCall, startValidation, submitValidationCode, onSession, onLists, onSave, onCore, ask}
 use Rattle.two_runs.specs.Demand.{numberOf, Tally, Within, Every, parts}
 
 -- ---- the calls that refill: New gate, and a session's end as Succeeded or as Failed
@@ -34,6 +34,7 @@ showsFailed (platform n) = false
 showsFailed (reason n) = false
 showsFailed (seconds n) = false
 showsFailed (session r) = isFailed (r .status)
+showsFailed (taken n end) = false
 
 abbrev pub isYes : Values → Bool
 isYes noValue = false
@@ -46,6 +47,7 @@ isYes (platform n) = false
 isYes (reason n) = false
 isYes (seconds n) = false
 isYes (session r) = false
+isYes (taken n end) = false
 
 -- a submit that is not refused, or is answered 10 with Failed
 abbrev pub submitRefills : ℕ → Values → Bool
@@ -63,6 +65,7 @@ refills (startValidation phone method clock random) a = false
 refills (submitValidationCode phone typed clock) a = submitRefills (numberOf a) (numberedReply a .values)
 refills (onSession k) a = sessionRefills k (numberedReply a .values)
 refills (onLists k) a = false
+refills (onSave k) a = false
 refills (onCore k) a = false
 refills (ask q) a = false
 

@@ -10,7 +10,7 @@ use crate::items::Bytes;
 const MOST_BYTES: usize = 5_090;
 
 /// The most that is lent.
-const LONGEST_LENT: u64 = 4_400;
+pub(super) const LONGEST_LENT: u64 = 4_400;
 
 impl Generator {
     /// Some conversions; what comes out of one is sometimes converted back.

@@ -11,6 +11,7 @@ mod plans;
 mod pools;
 mod random;
 mod records;
+mod saves;
 mod sessions;
 mod single;
 mod texts;

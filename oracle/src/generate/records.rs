@@ -26,6 +26,14 @@ fn version_2(cars: &[Listed]) -> Bytes {
     [vec![2, cars.len() as u8], parts.concat()].concat()
 }
 
+/// The record of these cars, each with 32 ids of 32 bytes.
+fn with_longest(mut cars: Vec<Listed>) -> Bytes {
+    for (_, phones) in &mut cars {
+        *phones = (0..32).map(|n| vec![n; 32]).collect();
+    }
+    version_2(&cars)
+}
+
 fn fillers(count: u8) -> Vec<Bytes> {
     (0..count).map(filler).collect()
 }
@@ -72,13 +80,18 @@ impl Generator {
         } else {
             self.random.pick(&[1, 2, 2, 3, 3, 4, 4, 4])
         };
-        let mut cars: Vec<Listed> = Vec::new();
+        let mut cars = Vec::new();
+        self.add_cars(&mut cars, count);
+        cars
+    }
+
+    /// Further cars, up to so many.
+    fn add_cars(&mut self, cars: &mut Vec<Listed>, count: usize) {
         while cars.len() < count {
-            let car = self.another_than(&cars);
+            let car = self.another_than(cars);
             let phones = self.some_phones();
             cars.push((car, phones));
         }
-        cars
     }
 
     /// A car that is not among these.
@@ -106,6 +119,15 @@ impl Generator {
         let mut cars = self.some_cars();
         cars.truncate(1);
         version_2(&cars)
+    }
+
+    /// The longest record.
+    pub(super) fn longest_record(&mut self) -> Bytes {
+        let mut cars = self.some_cars();
+        if !self.options.one_car {
+            self.add_cars(&mut cars, MAX_CARS);
+        }
+        with_longest(cars)
     }
 
     /// A record of version 2 that is too large.
@@ -210,12 +232,7 @@ impl Generator {
                 }
                 version_2(&cars)
             }
-            10 => {
-                for (_, phones) in &mut cars {
-                    *phones = (0..32).map(|n| vec![n; 32]).collect();
-                }
-                version_2(&cars)
-            }
+            10 => with_longest(cars),
             11 => {
                 let (_, phones) = &mut cars[0];
                 *phones = vec![phones[0].clone(); self.random.pick(&[2, 31, 32])];
@@ -319,11 +336,7 @@ impl Generator {
 
     /// A record of five cars, whole otherwise, or with a digest twice or something too large.
     fn five_cars(&mut self, mut cars: Vec<Listed>) -> Bytes {
-        while cars.len() < 5 {
-            let car = self.another_than(&cars);
-            let phones = self.some_phones();
-            cars.push((car, phones));
-        }
+        self.add_cars(&mut cars, 5);
         match self.random.below(4) {
             0 => self.make_twice(&mut cars),
             1 => self.make_large(&mut cars),

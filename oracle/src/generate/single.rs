@@ -9,7 +9,9 @@ impl Generator {
     /// A call of any kind. Calls that undo much are rare.
     pub(super) fn any_call(&mut self) {
         let call = match self.random.below(100) {
-            0..=23 => self.query(),
+            0..=20 => self.query(),
+            21 => Call::OpenSave {},
+            22..=23 => self.take(),
             24 => self.conversion(),
             25..=31 => self.start(),
             32..=38 => self.submit(),

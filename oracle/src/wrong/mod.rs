@@ -8,6 +8,7 @@ mod drawing;
 mod phones;
 mod probe;
 mod records;
+mod saves;
 mod sessions;
 mod tries;
 mod typed;
@@ -57,6 +58,7 @@ pub fn all() -> Vec<Wrong> {
         cars::RULES,
         records::RULES,
         conversions::RULES,
+        saves::RULES,
         probe::RULES,
         access::RULES,
     ]

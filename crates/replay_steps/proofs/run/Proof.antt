@@ -29,7 +29,7 @@ returns-4 c =
     let a = c .before .before .before .before .before .before .before .before .before .before .before .before .before .before .before .args in
     let l = c .before .before .before .before .before .before .put-long .ensures in
     let k = c .before .before .put-calm .ensures in
-    rw (line-long (a .i) (lentBytes (a .p) (now (a .room))) (a .name) (c .before .before .before .before .before .before .before .before .before .before .before .if1 .left) (c .before .before .before .before .before .before .before .before .before .before .if2 .left) (c .before .before .before .before .before .before .before .before .before .if3 .left) (c .before .before .before .before .before .before .before .before .if4 .taken)) (rw (laid-ask (a .h), ← l .0) (k .0), ask-fits (a .h) (longQuery (a .name - 13 - 18 - 17) (a .i) (lentBytes (a .p) (now (a .room)))) (l .1) (k .1))
+    rw (line-long (a .i) (lentBytes (a .p) (now (a .room))) (a .name) (c .before .before .before .before .before .before .before .before .before .before .before .if1 .left) (c .before .before .before .before .before .before .before .before .before .before .if2 .left) (c .before .before .before .before .before .before .before .before .before .if3 .left) (c .before .before .before .before .before .before .before .before .if4 .taken)) (rw (laid-ask (a .h), ← l .0) (k .0), ask-fits (a .h) (longQuery (a .name - 14 - 18 - 17) (a .i) (lentBytes (a .p) (now (a .room)))) (l .1) (k .1))
 
 returns-5 : tie.Need-returns-5
 returns-5 c =
