@@ -139,6 +139,11 @@ calls! {
     SessionFor "session_for" { phone: Bytes, now: u64 }
     Challenge "current_validation_challenge" {}
     Encode "encode_phone_validations" {}
+    PreviewUnpair "preview_remove_paired_phone" { phone: Bytes }
+    PreviewClear "preview_clear_paired_phones" {}
+    PreviewForget "preview_forget_phone_validation" { phone: Bytes }
+    PreviewPrune "preview_prune_phone_validations" {}
+    PreviewApprove "preview_approve_can_read_write" {}
 
     Convert "convert_phone_validations" { record: Bytes, target: bool, output: Bytes }
     SetCounters "set_counters" { next_session: u32, relocks: u32 }

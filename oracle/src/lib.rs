@@ -2,9 +2,10 @@
 //!
 //! `items` and `calls` read and write scripts (docs/REPLAY.md), `gate` runs a call on the source, `added` holds what
 //! documents 01 and 02 add around it (ADDED.md), `marks` when each bus was heard, `shelf` the cars of the store, `convert`
-//! the converter of records, `save` the record that is handed out in pieces, `queries` the calls that change nothing, `answer`
-//! what is printed, `state` the dump of the source's statics, `wrong` deliberate mistakes for testing the comparison itself,
-//! `cars_noted` and `saves_noted` what the histogram is told of the store, of records and of saves.
+//! the converter of records, `save` the record that is handed out in pieces, `previews` what an operation would give, `queries`
+//! the calls that change nothing, `answer` what is printed, `state` the dump of the source's statics, `wrong` deliberate mistakes
+//! for testing the comparison itself, `cars_noted`, `saves_noted` and `previews_noted` what the histogram is told of the store,
+//! of records, of saves and of previews.
 
 pub mod added;
 pub mod answer;
@@ -17,6 +18,8 @@ pub mod hex;
 pub mod host;
 pub mod items;
 pub mod marks;
+pub mod previews;
+pub mod previews_noted;
 pub mod queries;
 pub mod replay;
 pub mod save;

@@ -4,6 +4,7 @@ use crate::calls::{Call, LineError, parse};
 use crate::cars_noted::{noted, of_state};
 use crate::gate::Gate;
 use crate::host::Settings;
+use crate::previews_noted::PreviewsNoted;
 use crate::saves_noted::SavesNoted;
 use crate::wrong::{self, Wrong};
 use std::io::{self, BufRead, Write};
@@ -15,7 +16,7 @@ pub struct Options {
     pub wrong: Option<Wrong>,
     /// Without a shelf: the source keeps its one car.
     pub bare: bool,
-    /// Behind each line what the call did to the cars of the store and to a save.
+    /// Behind each line what the call did to the cars of the store and to a save, or would do.
     pub cars: bool,
 }
 
@@ -47,6 +48,7 @@ pub fn replay(script: impl BufRead, mut out: impl Write, options: &Options) -> R
         Gate::least()
     };
     let mut saves = SavesNoted::default();
+    let mut previews = PreviewsNoted::default();
     let mut passes_over = false;
     let mut awaits: Option<(usize, &'static str)> = None;
     // A line ends with byte 10 alone, and the last one also with the script.
@@ -77,7 +79,8 @@ pub fn replay(script: impl BufRead, mut out: impl Write, options: &Options) -> R
                 end_line(&mut out, options.cars, || {
                     let cars = noted(&call, &reply, &shelf, &gate.shelf);
                     let saves = saves.items(&call, &reply, save.as_ref(), &gate);
-                    [cars, saves].concat()
+                    let previews = previews.items(&call, &mut gate);
+                    [cars, saves, previews].concat()
                 })?;
                 if options.states {
                     print_state(&mut out, number, &gate, options)?;

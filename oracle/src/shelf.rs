@@ -8,6 +8,7 @@ use crate::convert::convert;
 use crate::gate::{Gate, Outcome, done, plain, refused};
 use crate::hex::to_hex;
 use crate::items::Bytes;
+use crate::previews::operation_of;
 use core_interface::CarDigest;
 use core_interface::oracle::{can_access, phone_trust, validation};
 
@@ -170,6 +171,9 @@ fn as_version_2(record: &[u8]) -> Bytes {
 impl Gate {
     /// Runs a call with the lists that it concerns in the source. The bare source keeps its one list itself.
     pub(crate) fn run_with_lists(&mut self, call: &Call) -> Outcome {
+        if let Some(operation) = operation_of(call) {
+            return self.preview(&operation).outcome();
+        }
         match call {
             Call::Restore { record } if self.bare => restore_bare(&as_version_1(record)),
             Call::Restore { record } => self.restore(record),

@@ -92,8 +92,16 @@ fn show_access() -> String {
     )
 }
 
-/// Each car in order, or `none`.
 fn show_phones(cars: &[Listed]) -> String {
+    let peer = match phone_trust::ble_peer() {
+        Some(peer) => to_hex(&peer),
+        None => "none".to_string(),
+    };
+    format!("{} peer={peer}", show_lists(&pairing::paired(), cars))
+}
+
+/// The paired phones, and the validated ones of each car in order, or of `none`.
+pub fn show_lists(paired: &[Bytes], cars: &[Listed]) -> String {
     let mut validated: Vec<String> = cars
         .iter()
         .map(|(car, phones)| show_listed(Some(*car), phones))
@@ -101,15 +109,7 @@ fn show_phones(cars: &[Listed]) -> String {
     if validated.is_empty() {
         validated.push(show_listed(None, &[]));
     }
-    let peer = match phone_trust::ble_peer() {
-        Some(peer) => to_hex(&peer),
-        None => "none".to_string(),
-    };
-    format!(
-        "paired={} {} peer={peer}",
-        hex::list(&pairing::paired()),
-        validated.join(" ")
-    )
+    format!("paired={} {}", hex::list(paired), validated.join(" "))
 }
 
 fn show_listed(car: Option<CarDigest>, phones: &[Bytes]) -> String {

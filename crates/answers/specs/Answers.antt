@@ -2,15 +2,12 @@
 -- an unmet condition always reads as read-only (can_access.rs).
 use mathlib.Core.Bool.{Bool, true, false, cond, not, _&&_, _||_}
 use mathlib.Core.List.{List, [], _∷_, map}
-use Prim.Native.Nat.{ℕ, zero, suc, _-_}
+use Prim.Native.Nat.{ℕ, suc, _-_}
 use lib.Dec.{eqb, ltb}
-use lib.ListN.{length, take, replicate}
+use lib.ListN.{length, take}
 use Rattle.arrays.specs.Arrays.{padded}
-use Rattle.phones.specs.declared.ShortId.{ShortId}
 use Rattle.phones.specs.Phones.{idBytes, idOf}
-use Rattle.saved_record.specs.declared.SavedRecord.{SavedRecord}
 use Rattle.state.specs.declared.Method.{Method}
-use Rattle.state.specs.declared.Methods.{Methods}
 use Rattle.state.specs.declared.Session.{Session}
 use Rattle.state.specs.declared.Policy.{Policy}
 use Rattle.state.specs.declared.Challenge.{Challenge}
@@ -23,10 +20,8 @@ use Rattle.state.specs.View.{Lists, View}
 use Rattle.range.specs.Range.{inRange}
 use Rattle.saved_record.specs.SavedRecord.{noRecord}
 use Rattle.state.specs.Replies.{noChallenge}
-use Rattle.policy.specs.declared.Approval.{Approval}
 use Rattle.policy.specs.declared.Approval.the-variants.{NotApproved}
 use Rattle.policy.specs.Policy.{fingerprintConfirmed, devLock, devUnlocked, isReadOnly, approvalOf}
-use Rattle.phone_trust.specs.declared.Trust.{Trust}
 use Rattle.phone_trust.specs.declared.Trust.the-variants.{NotBonded}
 use Rattle.phone_trust.specs.Trust.{isValidated, carHasValidated, trustOf}
 use Rattle.validations.specs.Store.{recordFor}

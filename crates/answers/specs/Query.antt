@@ -3,13 +3,18 @@ use mathlib.Core.Bool.{cond}
 use mathlib.Core.List.{List, []}
 use Prim.Native.Nat.{ℕ}
 use lib.ListN.{length}
+use Rattle.phones.specs.Ids.{afterwards}
+use Rattle.saved_record.specs.SavedRecord.{CarIds}
 use Rattle.state.specs.declared.Answer.{Answer}
 use Rattle.state.specs.declared.Answer.the-variants.{Done, Count, Number, Reason, BadSettings}
 use Rattle.state.specs.Answers.{Numbered, numbered}
-use Rattle.state.specs.View.{View}
+use Rattle.state.specs.View.{Lists, View, Listing, listsStay}
 use Rattle.range.specs.Range.{inRange}
 use Rattle.policy.specs.Policy.{fingerprintConfirmed, devLock, devUnlocked, isReadOnly, isFdBus, isBusReadOnly, reason}
-use Rattle.state.specs.Replies.{yesNo}
+use Rattle.state.specs.Replies.{nothingRaised, yesNo}
+use Rattle.validations.specs.Store.{recordFor, forget, prune}
+use Rattle.pairing.specs.Pairing.{unpair, clear}
+use Rattle.can_access.specs.Approval.{approve}
 use Rattle.phone_trust.specs.Trust.{isPaired, isValidated, carHasValidated}
 use Rattle.probe_window.specs.Window.{isListenOnly}
 use Rattle.answers.specs.declared.ApprovalAnswer.{ApprovalAnswer}
@@ -33,22 +38,29 @@ pub data Query : Type 0 where
   validationMethods : Query
   sessionFor : (phone : List ℕ) (clock : ℕ) → Query
   currentValidationChallenge encodePhoneValidations : Query
+  previewRemovePairedPhone previewForgetPhoneValidation : (id : List ℕ) → Query
+  previewClearPairedPhones previewPrunePhoneValidations previewApproveCanReadWrite : Query
 
--- an answer, or a struct that begins with one; L is a list of phones: by its ids, or as it lies in memory
-pub data Reply (L : Type 0) : Type 0 where
-  plain : Answer → Reply L
-  approval : ApprovalAnswer → Reply L
-  access : AccessAnswer → Reply L
-  phones : Answer → L → Reply L
-  trust : TrustAnswer → Reply L
-  peer : PeerAnswer → Reply L
-  phoneAccess : PhoneAccessAnswer → Reply L
-  methods : MethodsAnswer → Reply L
-  challenge : ChallengeAnswer → Reply L
-  saved : RecordAnswer → Reply L
+-- an answer, or a struct that begins with one; L is a list of phones and S a store of cars: by their ids, or as they lie in memory
+pub data Reply (L S : Type 0) : Type 0 where
+  plain : Answer → Reply L S
+  approval : ApprovalAnswer → Reply L S
+  access : AccessAnswer → Reply L S
+  phones : Answer → L → Reply L S
+  trust : TrustAnswer → Reply L S
+  peer : PeerAnswer → Reply L S
+  phoneAccess : PhoneAccessAnswer → Reply L S
+  methods : MethodsAnswer → Reply L S
+  challenge : ChallengeAnswer → Reply L S
+  saved : RecordAnswer → Reply L S
+  preview : Answer → (paired : L) (store : S) (bytes : ℕ) → Reply L S
+
+-- by their ids
+abbrev pub ReplyByIds : Type 0
+ReplyByIds = Reply (List (List ℕ)) (List CarIds)
 
 -- document 01's number and values of the answer that a reply is or begins with
-abbrev pub numberedReply : {L : Type 0} → Reply L → Numbered
+abbrev pub numberedReply : {L S : Type 0} → Reply L S → Numbered
 numberedReply (plain a) = numbered a
 numberedReply (approval a) = numbered (a .answer)
 numberedReply (access a) = numbered (a .answer)
@@ -59,8 +71,19 @@ numberedReply (phoneAccess a) = numbered (a .answer)
 numberedReply (methods a) = numbered (a .answer)
 numberedReply (challenge a) = numbered (a .answer)
 numberedReply (saved a) = numbered (a .answer)
+numberedReply (preview a paired store bytes) = numbered a
 
-unfoldable pub answerTo : View → Query → Reply (List (List ℕ))
+-- 02, W-203: what an operation would answer, the lists that it would leave, and how many bytes their record would need
+unfoldable pub foreseen : Lists → Listing → ReplyByIds
+foreseen l x =
+    let store = afterwards (l .store) (x .store) in
+    preview (x .answer) (afterwards (l .paired) (x .paired)) store (recordFor store .len)
+
+-- "With 25 these lists are empty and the bytes 0"
+unfoldable pub previewOf : View → Listing → ReplyByIds
+previewOf v x = cond (inRange v) (foreseen (v .lists) x) (preview BadSettings [] [] 0)
+
+unfoldable pub answerTo : View → Query → ReplyByIds
 answerTo v isCanReadOnly = plain (ifInRange v (yesNo (isReadOnly (v .core .policy))))
 answerTo v canReadOnlyReason = plain (ifInRange v (Reason (reason (v .core .policy))))
 answerTo v isCarIdentityConfirmed = plain (ifInRange v (yesNo (v .core .policy .identity .confirmed)))
@@ -87,3 +110,8 @@ answerTo v validationMethods = methods (methodsAnswer v)
 answerTo v (sessionFor phone clock) = plain (ifInRange v (sessionShown (v .core) phone clock))
 answerTo v currentValidationChallenge = challenge (challengeAnswer v)
 answerTo v encodePhoneValidations = saved (recordAnswer v)
+answerTo v (previewRemovePairedPhone id) = previewOf v (unpair (v .lists) id)
+answerTo v (previewForgetPhoneValidation id) = previewOf v (forget (v .lists) id)
+answerTo v previewClearPairedPhones = previewOf v (clear (v .lists))
+answerTo v previewPrunePhoneValidations = previewOf v (prune (v .lists))
+answerTo v previewApproveCanReadWrite = previewOf v (listsStay nothingRaised (approve (v .core) .answer))

@@ -5,6 +5,7 @@ use phones::PhoneList;
 use phones::ShortId;
 use policy::Approval;
 use saved_record::SavedRecord;
+use saved_record::Store;
 use state::Answer;
 use state::Challenge;
 use state::Kind;
@@ -73,4 +74,13 @@ pub struct ChallengeAnswer {
 pub struct RecordAnswer {
     pub answer: Answer,
     pub stored: SavedRecord,
+}
+
+// Which phones would go (W-203): what an operation would answer, the lists that it would leave, and the bytes that their record
+// would need.
+pub struct PreviewAnswer {
+    pub answer: Answer,
+    pub paired: PhoneList,
+    pub store: Store,
+    pub bytes: usize,
 }

@@ -4,19 +4,18 @@ use Prim.Native.Nat.{ℕ, zero, suc, _%_}
 use lib.ListN.{replicate}
 use Rattle.frames.specs.declared.CanFrame.{CanFrame}
 use Rattle.frames.specs.declared.TxClass.{TxClass}
-use Rattle.phones.specs.declared.PhoneList.{PhoneList}
 use Rattle.state.specs.declared.Gate.{Gate}
 use Rattle.state.specs.declared.Outcome.{Outcome}
 use Rattle.state.specs.declared.Answer.the-variants.{Done}
 use Rattle.state.specs.Replies.{noSignals}
-use Rattle.answers.specs.Query.{Reply, plain, approval, access, phones, trust, peer, phoneAccess, methods, challenge, saved, encodePhoneValidations}
-use Rattle.definition.specs.Gate.{Given, given, step, startValidation, submitValidationCode, onLists, onCore, ask, allowCanTx, restorePhoneValidations}
+use Rattle.answers.specs.Query.{plain, approval, access, phones, trust, peer, phoneAccess, methods, challenge, saved, preview, encodePhoneValidations}
+use Rattle.definition.specs.Gate.{PackedReply, Given, given, step, startValidation, submitValidationCode, onLists, onCore, ask, allowCanTx, restorePhoneValidations}
 use Rattle.bench_calls.specs.declared.held.Run.{Run}
 use Rattle.bench_calls.specs.Seen.{add, recordByte, raised, answerSeen}
 use Rattle.bench_calls.specs.Held.{ready}
 
 -- what is answerSeen by a reply: an answer, or a byte of a record
-abbrev pub toldBy : Reply PhoneList → ℕ → ℕ
+abbrev pub toldBy : PackedReply → ℕ → ℕ
 toldBy (plain a) i = answerSeen a
 toldBy (approval a) i = 0
 toldBy (access a) i = 0
@@ -27,6 +26,7 @@ toldBy (phoneAccess a) i = 0
 toldBy (methods a) i = 0
 toldBy (challenge a) i = 0
 toldBy (saved a) i = recordByte (a .stored) i
+toldBy (preview a paired store n) i = 0
 
 -- the sum and the gate after a call that gave `g` at turn i
 abbrev pub after : ℕ → Given → ℕ → Run

@@ -7,7 +7,6 @@ use Prim.Native.Nat.{ℕ}
 use Prim.Native.String.{String}
 use lib.ListN.{length, replicate}
 use Rattle.arrays.specs.Arrays.{padded}
-use Rattle.phones.specs.declared.PhoneList.{PhoneList}
 use Rattle.phones.specs.Phones.{idOf}
 use Rattle.frames.specs.declared.Id.the-variants.{Standard}
 use Rattle.frames.specs.declared.ProbeFrame.{ProbeFrame}
@@ -29,9 +28,9 @@ use Rattle.state.specs.Answers.{Numbered, Values, noValue, done, yes, no, secon
 use Rattle.state.specs.Parts.{withPolicy}
 use Rattle.policy_changes.specs.Changes.{withIdentity}
 use Rattle.probe_window.specs.Window.{isBusAwake, isOpen}
-use Rattle.answers.specs.Query.{Reply, saved, isCanBusListenOnly, sessionFor, encodePhoneValidations}
+use Rattle.answers.specs.Query.{saved, isCanBusListenOnly, sessionFor, encodePhoneValidations}
 use Rattle.new_gate.specs.New.{newGate, leastSettings}
-use Rattle.definition.specs.Gate.{Call, newGateCall, startValidation, submitValidationCode, onSession, onLists, onCore, ask, tickValidation, confirmCarIdentity, openIdentityProbe, allowCanTx, heardCanFrame, approveCanReadWrite, forgetPhoneValidation, restorePhoneValidations, step, afterAll}
+use Rattle.definition.specs.Gate.{Call, PackedReply, newGateCall, startValidation, submitValidationCode, onSession, onLists, onCore, ask, tickValidation, confirmCarIdentity, openIdentityProbe, allowCanTx, heardCanFrame, approveCanReadWrite, forgetPhoneValidation, restorePhoneValidations, step, afterAll}
 
 -- ---- a row: what is looked at, and what 01 says of it
 
@@ -40,7 +39,7 @@ pub data Observed : Type 0 where
   code : List ℕ → Observed  -- the nine places of the gate's code
   answer : Numbered → Observed  -- a call's answer
   truth : Bool → Observed  -- a definition that is no call: a bus is awake, a window is open
-  reply : Reply PhoneList → Observed  -- the whole reply to a query
+  reply : PackedReply → Observed  -- the whole reply to a query
   printed : List ℕ → Observed  -- the bytes that the listing program prints
 
 pub record Row : Type 0 where

@@ -13,7 +13,9 @@ use Rattle.frames.specs.declared.ProbeFrame.{ProbeFrame}
 use Rattle.frames.specs.declared.TxClass.{TxClass}
 use Rattle.draw.specs.Draw.{drawn}
 use Rattle.text.specs.Text.{isText, right}
+use Rattle.saved_record.specs.declared.Store.{Store}
 use Rattle.saved_record.specs.SavedRecord.{CarIds}
+use Rattle.saved_record.specs.Store.{storeOf}
 use Rattle.state.specs.declared.Car.{Car}
 use Rattle.state.specs.declared.Method.{Method}
 use Rattle.state.specs.declared.Settings.{Settings}
@@ -46,7 +48,7 @@ use Rattle.validation.specs.Calls as Validation
 use Rattle.validation.specs.Calls.{unvalidated}
 use Rattle.methods.specs.Notes as Methods
 use Rattle.answers.specs.Query as Query
-use Rattle.answers.specs.Query.{Query, Reply, plain, numberedReply, answerTo}
+use Rattle.answers.specs.Query.{Query, Reply, ReplyByIds, plain, numberedReply, answerTo}
 use Rattle.new_gate.specs.New.{madeCore}
 
 -- ---- the calls. Those of a session, those on the lists, those on the save and those on the core alone are told apart by type. Start and submit stand
@@ -101,7 +103,7 @@ pub data Call : Type 0 where
 -- its answer, with lists by their ids; what it sends, and whether S too; what becomes of each part of the gate, and of the memory that it was
 -- lent
 pub record Says : Type 0 where
-  pub answer : Reply (List (List ℕ))
+  pub answer : ReplyByIds
   pub raised : Raised
   pub stores : Bool
   pub core : Core
@@ -166,7 +168,7 @@ ofSave v x = record {
 }
 
 -- a query changes nothing and raises nothing
-abbrev pub asked : View → Reply (List (List ℕ)) → Says
+abbrev pub asked : View → ReplyByIds → Says
 asked v r = record {
   answer = r;
   raised = nothingRaised;
@@ -287,44 +289,46 @@ lentAfter nothing x = nothing
 lentAfter (bytes b) x = bytes (afterwards b x)
 
 -- what a call gives: the answer by document 01's number and values, and as it is returned; signals, lent memory, gate. G is a gate, L a
--- list, as they lie in memory
-pub record GivenIn (G L : Type 0) : Type 0 where
+-- list and S a store, as they lie in memory
+pub record GivenIn (G L S : Type 0) : Type 0 where
   pub numbered : Numbered
-  pub answer : Reply L
+  pub answer : Reply L S
   pub signals : Signals
   pub lent : Lent
   pub gate : G
 
--- how a gate lies in memory: what is seen of it, the gate that a call leaves, and a list that is returned
-pub record Form (G L : Type 0) : Type 0 where
+-- how a gate lies in memory: what is seen of it, the gate that a call leaves, and a list and a store that are returned
+pub record Form (G L S : Type 0) : Type 0 where
   pub view : G → View
   pub left : G → Says → G
   pub lay : List (List ℕ) → L
+  pub layStore : List CarIds → S
 
--- an answer with its list written otherwise
-abbrev pub replied : {K L : Type 0} → (K → L) → Reply K → Reply L
-replied f (plain a) = plain a
-replied f (Query.approval a) = Query.approval a
-replied f (Query.access a) = Query.access a
-replied f (Query.phones a ps) = Query.phones a (f ps)
-replied f (Query.trust a) = Query.trust a
-replied f (Query.peer a) = Query.peer a
-replied f (Query.phoneAccess a) = Query.phoneAccess a
-replied f (Query.methods a) = Query.methods a
-replied f (Query.challenge a) = Query.challenge a
-replied f (Query.saved a) = Query.saved a
+-- an answer with its lists written otherwise
+abbrev pub replied : {K L R S : Type 0} → (K → L) → (R → S) → Reply K R → Reply L S
+replied f h (plain a) = plain a
+replied f h (Query.approval a) = Query.approval a
+replied f h (Query.access a) = Query.access a
+replied f h (Query.phones a ps) = Query.phones a (f ps)
+replied f h (Query.trust a) = Query.trust a
+replied f h (Query.peer a) = Query.peer a
+replied f h (Query.phoneAccess a) = Query.phoneAccess a
+replied f h (Query.methods a) = Query.methods a
+replied f h (Query.challenge a) = Query.challenge a
+replied f h (Query.saved a) = Query.saved a
+replied f h (Query.preview a paired store n) = Query.preview a (f paired) (h store) n
 
 -- S, where it is sent, is the record of the store that is left
-unfoldable pub gives : {G L : Type 0} → Form G L → G → Lent → Says → GivenIn G L
+unfoldable pub gives : {G L S : Type 0} → Form G L S → G → Lent → Says → GivenIn G L S
 gives f g memory s = record {
   numbered = numberedReply (s .answer);
-  answer = replied (f .lay) (s .answer);
+  answer = replied (f .lay) (f .layStore) (s .answer);
   signals = sending (s .raised) (cond (s .stores) (sentS (recordFor (afterwards (f .view g .lists .store) (s .store)))) noS);
   lent = lentAfter memory (s .lent);
   gate = f .left g s;
 }
 
-abbrev pub stepIn : {G L : Type 0} → Form G L → G → Call → GivenIn G L
+abbrev pub stepIn : {G L S : Type 0} → Form G L S → G → Call → GivenIn G L S
 stepIn f g k = gives f g (lentTo k) (says (f .view g) k)
 
 -- ---- the gate as it lies in memory: lists are packed
@@ -333,15 +337,18 @@ stepIn f g k = gives f g (lentTo k) (says (f .view g) k)
 unfoldable pub left : Gate → Says → Gate
 left g s = record { core = s .core; phones = laidPhones (g .phones) (s .paired) (s .store); save = s .save; code = s .code }
 
-abbrev pub packed : Form Gate PhoneList
-packed = record { view = view; left = left; lay = listOf }
+abbrev pub packed : Form Gate PhoneList Store
+packed = record { view = view; left = left; lay = listOf; layStore = storeOf }
 
 abbrev pub Given : Type 0
-Given = GivenIn Gate PhoneList
+Given = GivenIn Gate PhoneList Store
 
--- an answer as it is returned: a list in it is laid canonically
-abbrev pub laidReply : Reply (List (List ℕ)) → Reply PhoneList
-laidReply r = replied listOf r
+-- an answer as it is returned: lists in it are laid canonically
+abbrev pub PackedReply : Type 0
+PackedReply = Reply PhoneList Store
+
+abbrev pub laidReply : ReplyByIds → PackedReply
+laidReply r = replied listOf storeOf r
 
 unfoldable pub step : Gate → Call → Given
 step g k = stepIn packed g k
@@ -368,7 +375,7 @@ abbrev pub lentGiven : Outcome → List ℕ → Given
 lentGiven o out = givenWith o (bytes out)
 
 -- a query returns its answer alone
-abbrev pub answered : Gate → Reply PhoneList → Given
+abbrev pub answered : Gate → PackedReply → Given
 answered g r = record { numbered = numberedReply r; answer = r; signals = noSignals; lent = nothing; gate = g }
 
 -- New gate gives this outcome, whatever gate was before it

@@ -15,7 +15,7 @@ use Rattle.state.specs.Replies.{noCode, codeAt}
 use Rattle.state.specs.View.{View, Listing, view, laidStore}
 use Rattle.range.specs.Range.{inRange}
 use Rattle.save.specs.Save.{Saving}
-use Rattle.answers.specs.Query.{Reply, plain}
+use Rattle.answers.specs.Query.{plain, ReplyByIds}
 use Rattle.definition.specs.Gate as Gate
 use Rattle.definition.specs.Gate.{SessionCall, Call, Says, saying, asked, served, ended, said, says, validates, ofSession, ofLists, ofSave, left, gives, step}
 use Rattle.footprint.specs.Footprint.{Part, settings, methods, validation, paired, store, save, code, inCore, notes, policy, peer, probe, sessionTouches, listTouches, touches, isIn, Same, Footprint}
@@ -71,7 +71,7 @@ leaves-save ps v x h = record {
   code = same-either (isIn code ps) (v .code);
 }
 
-leaves-asked : (ps : List Part) (v : View) (r : Reply (List (List ℕ))) → Leaves ps v (asked v r)
+leaves-asked : (ps : List Part) (v : View) (r : ReplyByIds) → Leaves ps v (asked v r)
 leaves-asked ps v r = record {
   core = unchanged ps (v .core);
   paired = same-either (isIn paired ps) stays;

@@ -6,7 +6,6 @@ use mathlib.Core.Bool.{true, false}
 use mathlib.Core.List.{List, [], _∷_, _++_}
 use lib.ListN.{replicate}
 use Rattle.arrays.specs.Arrays.{padded, put, sameBytes}
-use Rattle.phones.specs.declared.PhoneList.{PhoneList}
 use Rattle.phones.specs.Ids.{allOf, contains, joined, pushed, roomFor, someOf}
 use Rattle.phones.specs.Phones.{idBytes, idInRange, idOf, idsIn, listInRange, listOf, phonesOf, tooLong}
 use Rattle.draw.specs.Draw.{digits, drawLimit, drawn, firstBelow, group}
@@ -32,10 +31,10 @@ use Rattle.session.specs.Session as Session
 use Rattle.validation.specs.Calls as Validation
 use Rattle.answers.specs.Answers as Answers
 use Rattle.answers.specs.Query as Query
-use Rattle.answers.specs.Query.{Reply, plain}
+use Rattle.answers.specs.Query.{plain}
 use Rattle.new_gate.specs.New as New
 use Rattle.definition.specs.Gate as Gate
-use Rattle.definition.specs.Gate.{Call, submitValidationCode, onLists, restorePhoneValidations, addPairedPhone, clearPairedPhones, bytes, step, after}
+use Rattle.definition.specs.Gate.{PackedReply, Call, submitValidationCode, onLists, restorePhoneValidations, addPairedPhone, clearPairedPhones, bytes, step, after}
 use Rattle.definition.specs.Cases.{knownCar, phone, start}
 use Rattle.round_trip.specs.Trip.{Saves}
 use Rattle.joined.specs.Joined.{opened, comesTo, handed, takeInto, Place}
@@ -79,7 +78,7 @@ abbrev storedAt : List Call → List CarIds
 storedAt ks = carsOf (comesTo first ks .phones .store)
 
 -- what a take of so many bytes is answered there
-abbrev answerAt : List Call → ℕ → Reply PhoneList
+abbrev answerAt : List Call → ℕ → PackedReply
 answerAt ks n = step (comesTo first ks) (take n) .answer
 
 pub record Examples : Type 0 where

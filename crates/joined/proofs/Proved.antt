@@ -5,7 +5,6 @@ use mathlib.Core.List.{List, [], _∷_, _++_, append-assoc, append-nil}
 use native.Mathlib.Omega.{arith}
 use Rattle.arrays.proofs.Laws.{both}
 use Rattle.phones.specs.Ids.{allOf}
-use Rattle.phones.specs.declared.PhoneList.{PhoneList}
 use Rattle.saved_record.specs.declared.SavedRecord.{SavedRecord}
 use Rattle.saved_record.specs.SavedRecord.{noRecord}
 use Rattle.state.specs.declared.Gate.{Gate}
@@ -16,8 +15,8 @@ use Rattle.validations.specs.Store.{recordFor}
 use Rattle.save.specs.Save.{opening, rest}
 use Rattle.answers.specs.declared.RecordAnswer.{RecordAnswer}
 use Rattle.answers.specs.Answers.{recordAnswer}
-use Rattle.answers.specs.Query.{Reply, saved, numberedReply, answerTo}
-use Rattle.definition.specs.Gate.{Call, onSave, openPhoneValidationsSave, says, served, saving, left, gives, step, after, afterAll}
+use Rattle.answers.specs.Query.{saved, numberedReply, answerTo}
+use Rattle.definition.specs.Gate.{PackedReply, Call, onSave, openPhoneValidationsSave, says, served, saving, left, gives, step, after, afterAll}
 use Rattle.stays_in_range.specs.Stays.{Sized, InRange}
 use Rattle.stays_in_range.proofs.Proved.{stays-in-range, all-in-range}
 use Rattle.round_trip.specs.Trip.{Saves, used}
@@ -49,13 +48,13 @@ unfolding step gives says answerTo recordAnswer
 saves-is g r d = go (inRange (view g)) refl d
   where
     go : (b : Bool) → inRange (view g) ≡ b
-        → _≡_ {A = Reply PhoneList} (saved (cond b (record { answer = Done; stored = recordFor (view g .lists .store) }) (record { answer = BadSettings; stored = noRecord })))
+        → _≡_ {A = PackedReply} (saved (cond b (record { answer = Done; stored = recordFor (view g .lists .store) }) (record { answer = BadSettings; stored = noRecord })))
         (saved (record { answer = Done; stored = r }))
         → InRange g × (recordFor (view g .lists .store) ≡ r)
     go true e d =
         let f : _≡_ {A = RecordAnswer} (record { answer = Done; stored = recordFor (view g .lists .store) }) (record { answer = Done; stored = r }) = cc in
         (e, λ i. f i .stored)
-    go false e d = let n = ap (λ (x : Reply PhoneList). numberedReply x .number) d in absurd (omega arith)
+    go false e d = let n = ap (λ (x : PackedReply). numberedReply x .number) d in absurd (omega arith)
 
 opened-is : (g : Gate) → InRange g → opened g .save ≡ opening (view g .lists .store) .save
 unfolding step gives left says served saving

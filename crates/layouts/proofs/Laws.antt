@@ -4,12 +4,13 @@ use mathlib.Core.Bool.{Bool, cond}
 use mathlib.Core.List.{List, [], _∷_, map}
 use Prim.Native.Nat.{ℕ}
 use Rattle.phones.specs.Ids.{idsFit, Left, stays, becomes, afterwards}
+use Rattle.saved_record.specs.SavedRecord.{CarIds}
 use Rattle.state.specs.Replies.{noS, sentS, sending}
 use Rattle.state.specs.View.{View}
 use Rattle.range.proofs.Stores.{carsFit}
 use Rattle.validations.specs.Store.{recordFor}
 use Rattle.answers.specs.Query as Query
-use Rattle.answers.specs.Query.{Reply, plain, numberedReply}
+use Rattle.answers.specs.Query.{plain, numberedReply, ReplyByIds}
 use Rattle.definition.specs.Gate.{Call, Says, says, Lent, lentTo, lentAfter, Form, replied, gives}
 use Rattle.layouts.specs.Layouts.{run, Told, told}
 
@@ -29,8 +30,9 @@ after v s = record {
   code = s .code;
 }
 
-pub record Lawful {G L : Type 0} (f : Form G L) (ids : L → List (List ℕ)) : Type 0 where
+pub record Lawful {G L S : Type 0} (f : Form G L S) (ids : L → List (List ℕ)) (cars : S → List CarIds) : Type 0 where
   pub reads : (ps : List (List ℕ)) → ids (f .lay ps) ≡ ps
+  pub readsStore : (cs : List CarIds) → cars (f .layStore cs) ≡ cs
   pub leaves : (g : G) (s : Says) → f .view (f .left g s) ≡ after (f .view g) s
 
 -- ---- the run of a view, which both runs are
@@ -48,8 +50,8 @@ abbrev runSeen : View → List Call → List Told
 runSeen v [] = []
 runSeen v (k ∷ ks) = tells v (lentTo k) (says v k) ∷ runSeen (after v (says v k)) ks
 
-module _ {G L : Type 0} (f : Form G L) (ids : L → List (List ℕ)) (law : Lawful f ids) where
-  read-back : (r : Reply (List (List ℕ))) → replied ids (replied (f .lay) r) ≡ r
+module _ {G L S : Type 0} (f : Form G L S) (ids : L → List (List ℕ)) (cars : S → List CarIds) (law : Lawful f ids cars) where
+  read-back : (r : ReplyByIds) → replied ids cars (replied (f .lay) (f .layStore) r) ≡ r
   read-back (plain a) = refl
   read-back (Query.approval a) = refl
   read-back (Query.access a) = refl
@@ -60,18 +62,21 @@ module _ {G L : Type 0} (f : Form G L) (ids : L → List (List ℕ)) (law : Lawf
   read-back (Query.methods a) = refl
   read-back (Query.challenge a) = refl
   read-back (Query.saved a) = refl
+  read-back (Query.preview a paired store n) = rw (law .reads paired, law .readsStore store)
 
-  tells-is : (g : G) (memory : Lent) (s : Says) → told f ids (gives f g memory s) ≡ tells (f .view g) memory s
+  tells-is : (g : G) (memory : Lent) (s : Says) → told f ids cars (gives f g memory s) ≡ tells (f .view g) memory s
   unfolding gives
   tells-is g memory s = rw (read-back (s .answer), law .leaves g s)
 
-  run-seen : (g : G) (ks : List Call) → map (told f ids) (run f g ks) ≡ runSeen (f .view g) ks
+  run-seen : (g : G) (ks : List Call) → map (told f ids cars) (run f g ks) ≡ runSeen (f .view g) ks
   unfolding gives
   run-seen g [] = refl
   run-seen g (k ∷ ks) =
       let s = says (f .view g) k in
       rw (tells-is g (lentTo k) s, run-seen (f .left g s) ks, law .leaves g s)
 
-module _ {G L H K : Type 0} (f : Form G L) (ids : L → List (List ℕ)) (law : Lawful f ids) (f′ : Form H K) (ids′ : K → List (List ℕ)) (law′ : Lawful f′ ids′) where
-  pub agree : (g : G) (h : H) (ks : List Call) → f .view g ≡ f′ .view h → map (told f ids) (run f g ks) ≡ map (told f′ ids′) (run f′ h ks)
-  agree g h ks e = run-seen f ids law g ks ∙ ap (λ (v : View). runSeen v ks) e ∙ sym (run-seen f′ ids′ law′ h ks)
+module _ {G L S H K R : Type 0}
+    (f : Form G L S) (ids : L → List (List ℕ)) (cars : S → List CarIds) (law : Lawful f ids cars)
+    (f′ : Form H K R) (ids′ : K → List (List ℕ)) (cars′ : R → List CarIds) (law′ : Lawful f′ ids′ cars′) where
+  pub agree : (g : G) (h : H) (ks : List Call) → f .view g ≡ f′ .view h → map (told f ids cars) (run f g ks) ≡ map (told f′ ids′ cars′) (run f′ h ks)
+  agree g h ks e = run-seen f ids cars law g ks ∙ ap (λ (v : View). runSeen v ks) e ∙ sym (run-seen f′ ids′ cars′ law′ h ks)

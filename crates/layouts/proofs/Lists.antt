@@ -14,6 +14,7 @@ use Rattle.phones.specs.declared.PhoneList.{PhoneList}
 use Rattle.phones.specs.Ids.{someOf, joined, idsFit, Left, stays, becomes, afterwards}
 use Rattle.phones.specs.Phones.{idBytes, idOf, tooLong, phonesOf, listOf, listInRange, laid}
 use Rattle.phones.proofs.Laws.{phones-of-list, bytes-of-id}
+use Rattle.validations.proofs.Laid.{list-after}
 use Rattle.phones.proofs.Search.{none-cons}
 use Rattle.phones.proofs.Range.{Short, range-short}
 use Rattle.phones.proofs.Packed.{fits-of-list, fits-parts, parts-fit, range-fits, always-room}
@@ -71,10 +72,6 @@ wide-range-fits l h =
     parts-fit (map idBytes (take (l .count) (l .ids))) few (wide-short (take (l .count) (l .ids)) (r .1))
 
 -- ---- what is laid down is read
-
-pub packed-ids : (l : PhoneList) (x : Left (List (List ℕ))) → phonesOf (laid l x) ≡ afterwards (phonesOf l) x
-packed-ids l stays = refl
-packed-ids l (becomes ps) = phones-of-list ps
 
 pub packed-range : (l : PhoneList) (x : Left (List (List ℕ))) → listInRange (laid l x) ≡ fitsAfter idsFit (listInRange l) x
 packed-range l stays = refl
@@ -135,7 +132,7 @@ unpacks l h = (wideOf (phonesOf l), wide-sized (phonesOf l) (range-fits l h), wi
 
 changes : (k : Change) (l : PhoneList) (w : WideList) → phonesOf l ≡ wideIds w → phonesOf (laid l (changed k (phonesOf l))) ≡ wideIds (wideLaid wideOf w (changed k (wideIds w)))
 changes k l w e =
-    packed-ids l (changed k (phonesOf l))
+    list-after l (changed k (phonesOf l))
     ∙ ap (λ (ps : List (List ℕ)). afterwards ps (changed k ps)) e
     ∙ sym (wide-ids wideOf wideIds wide-reads w (changed k (wideIds w)))
 

@@ -21,9 +21,10 @@ use Rattle.range.proofs.Stores.{carsFit, cars-fit, store-range, store-fits}
 use Rattle.definition.specs.Gate.{Call, newGateCall, Says, says, lentTo, gives, left, packed, step}
 use Rattle.layouts.specs.Wide.{WideGate, wideIds, wideOf, wideInRange, wideCars, wideStoreOf, wideStoreInRange, wideView, wideLeft, wide}
 use Rattle.layouts.specs.Layouts.{All, Sized, WideSized, SizedStore, WideSizedStore, run, LayoutsAgree, Zeros, ZerosStore, ZerosIn, ZerosPast}
+use Rattle.validations.proofs.Laid.{list-after, store-after}
 use Rattle.layouts.proofs.Laws.{after, Lawful, agree}
-use Rattle.layouts.proofs.Lists.{packed-sized, wide-sized, wide-reads, wide-fits, wide-range-fits, packed-ids, packed-range, wide-ids, wide-range, zeros-of-list}
-use Rattle.layouts.proofs.Stores.{store-left-ids, store-left-range, store-sized, wide-store-reads, wide-store-range, wide-store-fits, wide-store-sized, zeros-of-store}
+use Rattle.layouts.proofs.Lists.{packed-sized, wide-sized, wide-reads, wide-fits, wide-range-fits, packed-range, wide-ids, wide-range, zeros-of-list}
+use Rattle.layouts.proofs.Stores.{store-left-range, store-sized, wide-store-reads, wide-store-range, wide-store-fits, wide-store-sized, zeros-of-store}
 
 -- ---- both forms keep to the law
 
@@ -31,7 +32,7 @@ packed-leaves : (g : Gate) (s : Says) → view (left g s) ≡ after (view g) s
 unfolding view left
 packed-leaves g s = λ i. record {
   core = s .core;
-  lists = record { paired = packed-ids (g .phones .paired) (s .paired) i; store = store-left-ids (g .phones .store) (s .store) i };
+  lists = record { paired = list-after (g .phones .paired) (s .paired) i; store = store-after (g .phones .store) (s .store) i };
   pairedFits = packed-range (g .phones .paired) (s .paired) i;
   storeFits = store-left-range (g .phones .store) (s .store) i;
   save = s .save;
@@ -49,11 +50,11 @@ wide-leaves g s = λ i. record {
   code = s .code;
 }
 
-packed-law : Lawful packed phonesOf
-packed-law = record { reads = phones-of-list; leaves = packed-leaves }
+packed-law : Lawful packed phonesOf carsOf
+packed-law = record { reads = phones-of-list; readsStore = cars-of-store; leaves = packed-leaves }
 
-wide-law : Lawful wide wideIds
-wide-law = record { reads = wide-reads; leaves = wide-leaves }
+wide-law : Lawful wide wideIds wideCars
+wide-law = record { reads = wide-reads; readsStore = wide-store-reads; leaves = wide-leaves }
 
 -- ---- a gate in range has its like: its ids and its cars, laid anew
 
@@ -108,7 +109,7 @@ unfolding step
 same g k = refl
 
 pub layouts-agree : LayoutsAgree
-layouts-agree = record { agree = agree packed phonesOf packed-law wide wideIds wide-law; packs = packs; unpacks = unpacks; same = same }
+layouts-agree = record { agree = agree packed phonesOf carsOf packed-law wide wideIds wideCars wide-law; packs = packs; unpacks = unpacks; same = same }
 
 -- ---- zeros past the last id
 

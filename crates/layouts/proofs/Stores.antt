@@ -45,10 +45,6 @@ module _ {C : Type 0} (lay : CarIds → C) (none : C) where
 
 -- ---- packed
 
-pub store-left-ids : (s : Store) (x : Left (List CarIds)) → carsOf (laidStore s x) ≡ afterwards (carsOf s) x
-store-left-ids s stays = refl
-store-left-ids s (becomes cs) = cars-of-store cs
-
 pub store-left-range : (s : Store) (x : Left (List CarIds)) → storeInRange (laidStore s x) ≡ fitsAfter carsFit (storeInRange s) x
 store-left-range s stays = refl
 store-left-range s (becomes cs) = store-range cs

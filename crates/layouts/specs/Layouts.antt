@@ -11,6 +11,7 @@ use Rattle.phones.specs.Ids.{joined, idsFit, keepWhere, retainIn, pushed, Left,
 use Rattle.phones.specs.Phones.{phonesOf, listOf, listInRange, laid}
 use Rattle.saved_record.specs.declared.CarPhones.{CarPhones}
 use Rattle.saved_record.specs.declared.Store.{Store}
+use Rattle.saved_record.specs.SavedRecord.{CarIds}
 use Rattle.saved_record.specs.Store.{emptyCar, carsOf, storeOf}
 use Rattle.state.specs.declared.Settings.{Settings}
 use Rattle.state.specs.declared.Method.{Method}
@@ -19,9 +20,9 @@ use Rattle.state.specs.declared.Gate.{Gate}
 use Rattle.state.specs.Answers.{Numbered}
 use Rattle.state.specs.View.{View, view}
 use Rattle.range.specs.Range.{inRange}
-use Rattle.answers.specs.Query.{Reply}
+use Rattle.answers.specs.Query.{ReplyByIds}
 use Rattle.definition.specs.Gate.{Call, newGateCall, Lent, GivenIn, Given, Form, replied, stepIn, packed, step}
-use Rattle.layouts.specs.Wide.{wideLaid, WideList, wideIds, wideOf, wideInRange, WideCar, WideStore, WideGate, wideView, wide}
+use Rattle.layouts.specs.Wide.{wideLaid, WideList, wideIds, wideOf, wideInRange, WideCar, WideStore, wideCars, WideGate, wideView, wide}
 
 -- P holds of each element
 abbrev pub All : {A : Type 0} → (A → Type 0) → List A → Type 0
@@ -64,21 +65,21 @@ pub record SameIds : Type 0 where
 -- ---- layouts-agree: of a gate
 
 -- each call is lent the gate as the call before it left it
-abbrev pub run : {G L : Type 0} → Form G L → G → List Call → List (GivenIn G L)
+abbrev pub run : {G L S : Type 0} → Form G L S → G → List Call → List (GivenIn G L S)
 run f g [] = []
 run f g (k ∷ ks) = stepIn f g k ∷ run f (stepIn f g k .gate) ks
 
--- what is compared: the answer, a list in it by its ids; signals with their records and lent memory, whole; of the gate all but how its
+-- what is compared: the answer, lists in it by their ids; signals with their records and lent memory, whole; of the gate all but how its
 -- lists lie
 pub record Told : Type 0 where
   pub numbered : Numbered
-  pub answer : Reply (List (List ℕ))
+  pub answer : ReplyByIds
   pub signals : Signals
   pub lent : Lent
   pub seen : View
 
-abbrev pub told : {G L : Type 0} → Form G L → (L → List (List ℕ)) → GivenIn G L → Told
-told f ids o = record { numbered = o .numbered; answer = replied ids (o .answer); signals = o .signals; lent = o .lent; seen = f .view (o .gate) }
+abbrev pub told : {G L S : Type 0} → Form G L S → (L → List (List ℕ)) → (S → List CarIds) → GivenIn G L S → Told
+told f ids cars o = record { numbered = o .numbered; answer = replied ids cars (o .answer); signals = o .signals; lent = o .lent; seen = f .view (o .gate) }
 
 -- what the type of a store gives: four cars with such lists. The digests in use are among what is seen; those past the count have 32 bytes
 abbrev pub SizedStore : Store → Type 0
@@ -89,7 +90,7 @@ WideSizedStore s = (length (s .cars) ≡ 4) × All (λ (c : WideCar). WideSized 
 
 pub record LayoutsAgree : Type 0 where
   -- over every list of calls, from two gates that are seen alike
-  pub agree : (g : Gate) (w : WideGate) (ks : List Call) → view g ≡ wideView w → map (told packed phonesOf) (run packed g ks) ≡ map (told wide wideIds) (run wide w ks)
+  pub agree : (g : Gate) (w : WideGate) (ks : List Call) → view g ≡ wideView w → map (told packed phonesOf carsOf) (run packed g ks) ≡ map (told wide wideIds wideCars) (run wide w ks)
   -- every gate in range of either layout has one of the other that is seen alike
   pub packs : (w : WideGate) → inRange (wideView w) ≡ true → (g : Gate) × Sized (g .phones .paired) × SizedStore (g .phones .store) × (view g ≡ wideView w)
   pub unpacks : (g : Gate) → inRange (view g) ≡ true → (w : WideGate) × WideSized (w .paired) × WideSizedStore (w .store) × (wideView w ≡ view g)

@@ -91,5 +91,5 @@ wideLeft g s = record {
   code = s .code;
 }
 
-abbrev pub wide : Form WideGate WideList
-wide = record { view = wideView; left = wideLeft; lay = wideOf }
+abbrev pub wide : Form WideGate WideList WideStore
+wide = record { view = wideView; left = wideLeft; lay = wideOf; layStore = wideStoreOf }

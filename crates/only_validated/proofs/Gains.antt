@@ -30,6 +30,7 @@ use Rattle.policy.specs.Policy.{isIdentified}
 use Rattle.pairing.specs.Pairing as Pairing
 use Rattle.validations.specs.Store.{storing}
 use Rattle.validations.specs.Store as Validations
+use Rattle.validations.proofs.Laid.{store-after}
 use Rattle.session.specs.declared.Lapse.{Lapse}
 use Rattle.session.specs.Session.{endedAs, isOf, cannotGoOn, lapseOf}
 use Rattle.validation.specs.Calls as Validation
@@ -127,11 +128,6 @@ module _ (g : Gate) (phone typed : List ℕ) (clock : ℕ) where
 
 -- ---- every call
 
--- a store is laid with the cars that it is to have
-laid-is : (v : Store) (y : Left (List CarIds)) → carsOf (laidStore v y) ≡ afterwards (carsOf v) y
-laid-is v stays = refl
-laid-is v (becomes cs) = cars-of-store cs
-
 module _ (P : List ℕ → List ℕ → Type 0) (cs : List CarIds) where
   gain-ended : (x : Session) (b : Bool) → (b ≡ true → P (x .car) (idBytes (x .phone))) → Gains P cs (validates cs x b)
   gain-ended x false k = gain-stays P cs
@@ -181,4 +177,4 @@ module _ (g : Gate) where
 
   pub becomes-listed : (k : Call) (car phone : List ℕ) → NotListed g car phone → Listed (after g k) car phone → (inRange (view g) ≡ true) × Validates g car phone k
   unfolding step gives left
-  becomes-listed k car phone n l = gain-call k .gains car phone n (rw (laid-is (g .phones .store) (says (view g) k .store)) at l)
+  becomes-listed k car phone n l = gain-call k .gains car phone n (rw (store-after (g .phones .store) (says (view g) k .store)) at l)

@@ -7,7 +7,6 @@ use mathlib.Core.Bool.{false}
 use mathlib.Core.List.{List, [], _∷_, _++_}
 use lib.ListN.{replicate}
 use Rattle.arrays.specs.Arrays.{padded, sameBytes}
-use Rattle.phones.specs.declared.PhoneList.{PhoneList}
 use Rattle.phones.specs.Ids.{allOf, contains, joined, kept, pushed, removeAll, roomFor, someOf}
 use Rattle.phones.specs.Phones.{idBytes, idInRange, idOf, idsIn, listInRange, listOf, phonesOf, tooLong}
 use Rattle.frames.specs.declared.Id.the-variants.{Standard}
@@ -47,10 +46,10 @@ use Rattle.session.specs.Session as Session
 use Rattle.validation.specs.Calls as Validation
 use Rattle.answers.specs.Answers as Answers
 use Rattle.answers.specs.Query as Query
-use Rattle.answers.specs.Query.{Reply, plain}
+use Rattle.answers.specs.Query.{plain}
 use Rattle.new_gate.specs.New as New
 use Rattle.definition.specs.Gate as Gate
-use Rattle.definition.specs.Gate.{Call, startValidation, submitValidationCode, onSession, onLists, onCore, ask, step, afterAll}
+use Rattle.definition.specs.Gate.{PackedReply, Call, startValidation, submitValidationCode, onSession, onLists, onCore, ask, step, afterAll}
 use Rattle.definition.specs.Cases.{settings, method, phone, start}
 use Rattle.only_validated.specs.Row.{carNow, WasValidated}
 use Rattle.only_validated.proofs.Proved.{only-validated}
@@ -127,10 +126,10 @@ thereAndBack = ready ++ codeTyped ++ otherBike ++ actionDone other 2 ++ bike
 abbrev frame : CanFrame
 frame = record { bus = 0; id = Standard 0x123; «data» = replicate 8 0; dlc = 8 }
 
-abbrev told : List Call → List ℕ → Reply PhoneList
+abbrev told : List Call → List ℕ → PackedReply
 told ks owner = step (afterAll first ks) (onCore (Gate.allowCanTx 0 frame Command owner 3_000)) .answer
 
-abbrev readOnly : List Call → Reply PhoneList
+abbrev readOnly : List Call → PackedReply
 readOnly ks = step (afterAll first ks) (ask (Query.isCanBusReadOnly 0)) .answer
 
 pub record Examples : Type 0 where

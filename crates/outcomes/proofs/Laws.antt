@@ -3,11 +3,10 @@ use mathlib.Core.Path.{_≡_, refl, ap, sym, _∙_}
 use mathlib.Core.Bool.{Bool, true, false, cond}
 use mathlib.Core.List.{List}
 use Prim.Native.Nat.{ℕ}
-use Rattle.phones.specs.Ids.{Left, stays, becomes, afterwards}
+use Rattle.phones.specs.Ids.{Left, stays}
 use Rattle.saved_record.specs.declared.Store.{Store}
 use Rattle.saved_record.specs.SavedRecord.{CarIds}
 use Rattle.saved_record.specs.Store.{carsOf}
-use Rattle.saved_record.proofs.Laws.{cars-of-store}
 use Rattle.state.specs.declared.Phones.{Phones}
 use Rattle.state.specs.declared.Gate.{Gate}
 use Rattle.state.specs.declared.Said.{Said}
@@ -22,15 +21,11 @@ use Rattle.state.specs.Replies.{noS, noSignals, nothingRaised, sending, leave, 
 use Rattle.state.specs.View.{View, Listing, view, listsIn, listsStay, laidStore, listedIn}
 use Rattle.range.specs.Range.{inRange}
 use Rattle.answers.specs.Query.{plain}
+use Rattle.validations.proofs.Laid.{store-after}
 use Rattle.validation.specs.Calls.{unvalidated}
 use Rattle.definition.specs.Gate.{SessionCall, ListCall, SaveCall, CoreCall, onSession, onLists, onSave, onCore, saying, ofCore, ofSession, ofLists, ofSave, saving, Lent, nothing, lentToSave, lentAfter, givenWith, asked, served, ended, listing, said, fullFor, says, left, gives, packed, step, given}
 use Rattle.outcomes.specs.Served.{outOfRange, saidOn, endedOn, listedOn, keptOn}
 use Rattle.outcomes.specs.Settled.{put, storedIf, Settles, Keeps}
-
--- the store that is left holds what becomes of it
-pub store-after : (v : Store) (x : Left (List CarIds)) → carsOf (laidStore v x) ≡ afterwards (carsOf v) x
-store-after v stays = refl
-store-after v (becomes cs) = cars-of-store cs
 
 -- ---- what is put together
 

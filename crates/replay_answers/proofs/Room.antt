@@ -17,6 +17,7 @@ use Rattle.answers.specs.declared.MethodsAnswer.{MethodsAnswer}
 use Rattle.answers.specs.declared.PeerAnswer.{PeerAnswer}
 use Rattle.answers.specs.declared.PhoneAccessAnswer.{PhoneAccessAnswer}
 use Rattle.answers.specs.declared.PhonesAnswer.{PhonesAnswer}
+use Rattle.answers.specs.declared.PreviewAnswer.{PreviewAnswer}
 use Rattle.answers.specs.declared.RecordAnswer.{RecordAnswer}
 use Rattle.answers.specs.declared.TrustAnswer.{TrustAnswer}
 use Rattle.answers.proofs.AccessAnswer as AccessAnswer
@@ -26,6 +27,7 @@ use Rattle.answers.proofs.MethodsAnswer as MethodsAnswer
 use Rattle.answers.proofs.PeerAnswer as PeerAnswer
 use Rattle.answers.proofs.PhoneAccessAnswer as PhoneAccessAnswer
 use Rattle.answers.proofs.PhonesAnswer as PhonesAnswer
+use Rattle.answers.proofs.PreviewAnswer as PreviewAnswer
 use Rattle.answers.proofs.RecordAnswer as RecordAnswer
 use Rattle.answers.proofs.TrustAnswer as TrustAnswer
 use Rattle.phone_trust.specs.declared.Trust.{Trust}
@@ -37,15 +39,15 @@ use Rattle.policy.specs.declared.Approval.the-variants.{NotApproved, AwaitingCa
 use Rattle.state.specs.Running.{pastMethods}
 use Rattle.state.specs.declared.Answer.{Answer}
 use Rattle.state.proofs.Answer as Answer
-use Rattle.replay_lines.specs.Answer.{heldBy}
+use Rattle.replay_lines.specs.Answer.{heldBy, isOutOfRange}
 use Rattle.replay_lines.specs.Page.{Page, word}
 use Rattle.replay_lines.specs.Room.{Within}
 use Rattle.replay_lines.specs.declared.answer.Held.{Held}
 use Rattle.replay_lines.specs.declared.answer.Held.the-variants.{Fine, Blank, Item, Part, Reply, Wrong}
 use Rattle.replay_lines.proofs.AnswerRoom.{Owned, method-ids, HeldIn, shown-in, answer-in}
-use Rattle.replay_lines.proofs.StoreRoom.{saved-in}
+use Rattle.replay_lines.proofs.StoreRoom.{saved-in, lists-in}
 use Rattle.replay_lines.proofs.Room.{_⊕_, upto, either, same, text-in, comma-in, item-in, flag-in, word-in, digits-in, id-in, phones-in, method-in}
-use Rattle.replay_answers.specs.Query.{isDone, approvalName, trustName, told, approval, access, phonesListed, trust, peer, seenIn, shown, phoneAccess, methodAt, methodsTo, methods, challenge, encoded, longRoom}
+use Rattle.replay_answers.specs.Query.{isDone, approvalName, trustName, told, approval, access, phonesListed, trust, peer, seenIn, shown, phoneAccess, methodAt, methodsTo, methods, challenge, encoded, preview, longRoom}
 
 told-in : (a : Answer) (vs : List Val) → Owned Answer.the-field a vs → (n : ℕ) (f : Page → Page) → Within n f → Within (205 + n) (told a f)
 unfolding told
@@ -149,3 +151,10 @@ unfolding encoded
 encoded-in a vs h =
     upto longRoom (lit≤ tt) (told-in (a .answer) _ (h .1 .1 .0) 8724 _
     (text-in (ascii " record=") ⊕ saved-in (a .stored) _ (h .1 .1 .1 .0)))
+
+pub preview-in : (a : PreviewAnswer) (vs : List Val) → Owned PreviewAnswer.the-field a vs → Within longRoom (preview a)
+unfolding preview
+preview-in a vs h =
+    let said = answer-in (a .answer) _ (h .1 .1 .0) in
+    either (isOutOfRange (a .answer)) (upto longRoom (lit≤ tt) said)
+    (upto longRoom (lit≤ tt) (said ⊕ lists-in (a .paired) (a .store) _ _ (h .1 .1 .1 .0) (h .1 .1 .1 .1 .0) ⊕ item-in (ascii " record_bytes=") (a .bytes) (omega arith)))

@@ -1,4 +1,4 @@
--- How the answers of queries are shown that hold more than an answer. Nothing stands behind a refusal or none.
+-- How the answers of queries are shown that hold more than an answer. Nothing stands behind a refusal or none, but for previews.
 use mathlib.Core.Bool.{Bool, true, false, cond}
 use mathlib.Core.List.{List}
 use Prim.Native.Nat.{ℕ, zero, suc}
@@ -10,6 +10,7 @@ use Rattle.policy.specs.declared.Approval.the-variants.{NotApproved, AwaitingCa
 use Rattle.phone_trust.specs.declared.Trust.{Trust}
 use Rattle.phone_trust.specs.declared.Trust.the-variants.{NotBonded, Bonded, Validated}
 use Rattle.phones.specs.Phones.{idBytes, phonesOf}
+use Rattle.saved_record.specs.Store.{carsOf}
 use Rattle.state.specs.Running.{pastMethods}
 use Rattle.state.specs.declared.Answer.{Answer}
 use Rattle.answers.specs.declared.AccessAnswer.{AccessAnswer}
@@ -19,11 +20,13 @@ use Rattle.answers.specs.declared.MethodsAnswer.{MethodsAnswer}
 use Rattle.answers.specs.declared.PeerAnswer.{PeerAnswer}
 use Rattle.answers.specs.declared.PhoneAccessAnswer.{PhoneAccessAnswer}
 use Rattle.answers.specs.declared.PhonesAnswer.{PhonesAnswer}
+use Rattle.answers.specs.declared.PreviewAnswer.{PreviewAnswer}
 use Rattle.answers.specs.declared.RecordAnswer.{RecordAnswer}
 use Rattle.answers.specs.declared.TrustAnswer.{TrustAnswer}
 use Rattle.replay_lines.specs.declared.answer.Held.{Held}
 use Rattle.replay_lines.specs.declared.answer.Held.the-variants.{Fine, Blank, Item, Part, Reply, Wrong}
-use Rattle.replay_lines.specs.Answer.{heldBy, reply, answer}
+use Rattle.replay_lines.specs.Answer.{heldBy, isOutOfRange, reply, answer}
+use Rattle.replay_lines.specs.Cars.{lists}
 use Rattle.replay_lines.specs.Page.{Page, _▸_, text, bytes, digits, comma, item, flag, word}
 use Rattle.replay_lines.specs.Parts.{idsFrom, method}
 use Rattle.replay_answers.specs.declared.Seen.{Seen}
@@ -118,6 +121,12 @@ challenge a =
 
 unfoldable pub encoded : RecordAnswer → Page → Page
 encoded a = told (a .answer) (λ p. p ▸ text (ascii " record=") ▸ bytes (take (a .stored .len) (a .stored .bytes)))
+
+-- which phones would go (W-203): behind every answer but 25, the lists that would be left and the bytes of their record
+unfoldable pub preview : PreviewAnswer → Page → Page
+preview a p =
+    cond (isOutOfRange (a .answer)) (p ▸ answer (a .answer))
+    (p ▸ answer (a .answer) ▸ lists (phonesOf (a .paired)) (carsOf (a .store)) ▸ item (ascii " record_bytes=") (a .bytes))
 
 -- room for each of these answers
 abbrev pub longRoom : ℕ

@@ -1,4 +1,4 @@
-// The answers of queries that hold more than an answer. Nothing stands behind a refusal or none.
+// The answers of queries that hold more than an answer. Nothing stands behind a refusal or none, but for previews.
 use answers::AccessAnswer;
 use answers::ApprovalAnswer;
 use answers::ChallengeAnswer;
@@ -6,6 +6,7 @@ use answers::MethodsAnswer;
 use answers::PeerAnswer;
 use answers::PhoneAccessAnswer;
 use answers::PhonesAnswer;
+use answers::PreviewAnswer;
 use answers::RecordAnswer;
 use answers::TrustAnswer;
 use phone_trust::Trust;
@@ -23,7 +24,7 @@ ghost use lib.ListN.{getD};
 ghost use Rattle.replay_lines.specs.Page.{page};
 ghost use Rattle.replay_lines.specs.Table.{words};
 ghost use Rattle.replay_lines.specs.Fields.{putFields};
-ghost use Rattle.replay_answers.specs.Query.{isDone, approvalName, trustName, told, approval, access, phonesListed, trust, peer, seen, shown, phoneAccess, methodAt, methodsTo, methods, challenge, encoded};
+ghost use Rattle.replay_answers.specs.Query.{isDone, approvalName, trustName, told, approval, access, phonesListed, trust, peer, seen, shown, phoneAccess, methodAt, methodsTo, methods, challenge, encoded, preview};
 
 // The session of a phone, or none.
 pub enum Seen {
@@ -309,4 +310,20 @@ pub fn put_encoded(out: &mut [u8], at: usize, a: RecordAnswer) -> usize
     ];
     let answer = a.answer;
     put_told(out, at, answer, &stored, fields)
+}
+
+// Behind every answer but 25: what would be left.
+pub fn put_preview(out: &mut [u8], at: usize, a: PreviewAnswer) -> usize
+    ensures { λ r. ⌜ page (now (out .exit)) r ≡ preview a (page (now (out .entry)) at) ⌝ }
+{
+    let answer = a.answer;
+    let k = replay_lines::answer::put_answer(out, at, answer);
+    if replay_lines::answer::is_out_of_range(answer) {
+        return k;
+    }
+    let paired = a.paired;
+    let store = a.store;
+    let k = replay_lines::cars::put_lists(out, k, paired, store);
+    let bytes = Field::Number(key::RECORD_BYTES, a.bytes as u64);
+    replay_lines::fields::put_field(out, k, b"", bytes)
 }

@@ -57,7 +57,7 @@ abbrev plains : ℕ
 plains = 17
 
 abbrev longs : ℕ
-longs = 9
+longs = 14
 
 -- the line of a row, by its kind and its place there
 module _ (i : Items) (b : Bytes) (n : ℕ) where

@@ -23,7 +23,7 @@ use Rattle.saved_record.specs.Store.{carOf, carsOf}
 use Rattle.saved_record.proofs.CarPhones as CarPhones
 use Rattle.saved_record.proofs.SavedRecord as SavedRecord
 use Rattle.saved_record.proofs.Store as Store
-use Rattle.replay_lines.specs.Cars.{noCar, car, eachCar, cars}
+use Rattle.replay_lines.specs.Cars.{noCar, car, eachCar, cars, lists}
 use Rattle.replay_lines.specs.Page.{bytes}
 use Rattle.replay_lines.specs.Parts.{idsFrom}
 use Rattle.replay_lines.specs.Room.{Within}
@@ -33,7 +33,7 @@ use Rattle.replay_lines.proofs.Room.{_⊕_, upto, same, text-in, bytes-
 pub saved-in : (r : SavedRecord) (vs : List Val) → Owned SavedRecord.the-field r vs → Within 8716 (bytes (take (r .len) (r .bytes)))
 saved-in r vs h = part-in (r .bytes) (r .len) 4358 (le-of-eq (search needs))
 
-pub list-in : (l : PhoneList) (vs : List Val) → Owned PhoneList.the-field l vs → Within 2080 (idsFrom 0 (phonesOf l))
+list-in : (l : PhoneList) (vs : List Val) → Owned PhoneList.the-field l vs → Within 2080 (idsFrom 0 (phonesOf l))
 list-in l vs h = phones-in l (le-of-eq (search needs)) (le-of-eq (search needs))
 
 -- ---- the cars
@@ -62,8 +62,13 @@ unfolding cars
 or-none-in [] u = no-car-in
 or-none-in (c ∷ cs) u = u
 
-pub cars-in : (s : Store) (vs : List Val) → Owned Store.the-field s vs → Within 8680 (cars (carsOf s))
+cars-in : (s : Store) (vs : List Val) → Owned Store.the-field s vs → Within 8680 (cars (carsOf s))
 unfolding carsOf
 cars-in s vs h =
     let many : length (s .cars) ≡ 4 = search (needs, long-map) in
     or-none-in (carsOf s) (upto 8680 (omega arith) (each-in (s .count) (s .cars) _ (h .1 .1 .0 .1 .1)))
+
+pub lists-in : (paired : PhoneList) (store : Store) (vs us : List Val) → Owned PhoneList.the-field paired vs → Owned Store.the-field store us
+    → Within 10768 (lists (phonesOf paired) (carsOf store))
+unfolding lists
+lists-in paired store vs us h k = text-in (ascii " paired=") ⊕ list-in paired vs h ⊕ cars-in store us k

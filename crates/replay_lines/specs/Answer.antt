@@ -1,8 +1,11 @@
 -- How an answer is shown: the number and name of a refusal (documents 01 and 02), and the values behind an answer.
+use mathlib.Core.Bool.{Bool}
 use mathlib.Core.List.{List, []}
 use Prim.Native.Nat.{ℕ}
+use lib.Dec.{eqb}
 use lib.ListN.{getD}
 use Rattle.ascii.specs.Ascii.{ascii}
+use Rattle.state.specs.Answers.{number}
 use Rattle.state.specs.declared.Answer.{Answer}
 use Rattle.state.specs.declared.Answer.the-variants.{Done, Yes, No, Nothing, Count, Number, Reason, Session, Taken, UnknownMethod, CarNotIdentified, CoolingDown, OtherPhoneSession, MethodUnavailable, MethodNotAvailableNow, NoRandomSource, NoSession, NotCodeEntry, WrongCode, NoDevLock, NotNeeded, Logging, BusAsleep, Busy, NoAttemptsLeft, Invalid, IdTooLong, RandomSpent, NotText, ListFull, Malformed, TooLarge, BadFrame, BadSettings, CarTwice, NoSave}
 use Rattle.state.specs.declared.Kind.{Kind}
@@ -59,6 +62,10 @@ nameOf a = shownAs a .0
 
 abbrev pub heldBy : Answer → Held
 heldBy a = shownAs a .1
+
+-- 25, which comes before everything else
+abbrev pub isOutOfRange : Answer → Bool
+isOutOfRange a = eqb (number a) 25
 
 abbrev pub kindName : Kind → List ℕ
 kindName CodeEntry = ascii "code"

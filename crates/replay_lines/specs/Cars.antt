@@ -1,5 +1,6 @@
--- How the cars of a store are shown, with the phones validated for each (W-207).
+-- How the paired phones are shown, and the cars of a store with the phones validated for each (W-207).
 use mathlib.Core.List.{List, [], _∷_}
+use Prim.Native.Nat.{ℕ}
 use Rattle.ascii.specs.Ascii.{ascii}
 use Rattle.saved_record.specs.SavedRecord.{CarIds}
 use Rattle.replay_lines.specs.Page.{Page, _▸_, text, bytes, word}
@@ -20,3 +21,6 @@ eachCar (c ∷ cs) p = p ▸ car c ▸ eachCar cs
 unfoldable pub cars : List CarIds → Page → Page
 cars [] p = noCar p
 cars (c ∷ cs) p = eachCar (c ∷ cs) p
+
+unfoldable pub lists : List (List ℕ) → List CarIds → Page → Page
+lists paired store p = p ▸ text (ascii " paired=") ▸ idsFrom 0 paired ▸ cars store

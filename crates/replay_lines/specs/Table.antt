@@ -68,6 +68,7 @@ keyNames =
     ∷ " end="
     ∷ " save="
     ∷ " at="
+    ∷ " record_bytes="
     ∷ []
 
 unfoldable pub wordNames : List String
@@ -128,10 +129,13 @@ keys = map ascii keyNames
 unfoldable pub words : List (List ℕ)
 words = map ascii wordNames
 
--- the place of a key
+-- the place of a key, and of a word
 unfoldable pub find : List (List ℕ) → List ℕ → ℕ
 find [] w = 0
 find (x ∷ xs) w = cond (sameBytes w x) 0 (suc (find xs w))
 
 unfoldable pub keyOf : String → ℕ
 keyOf k = find keys (ascii k)
+
+unfoldable pub wordOf : String → ℕ
+wordOf w = find words (ascii w)

@@ -8,10 +8,11 @@ use state::SessionReply;
 use state::Status;
 ghost use mathlib.Core.Path.{_≡_};
 ghost use mathlib.Core.List.{[]};
+ghost use lib.Dec.{eqb};
 ghost use lib.ListN.{getD};
 ghost use Rattle.replay_lines.specs.Page.{page};
-ghost use Rattle.replay_lines.specs.Table.{words};
-ghost use Rattle.replay_lines.specs.Answer.{nameOf, kindName, statusName, reply, heldBy, behind, answer};
+ghost use Rattle.replay_lines.specs.Table.{words, wordOf};
+ghost use Rattle.replay_lines.specs.Answer.{nameOf, heldBy, isOutOfRange, kindName, statusName, reply, behind, answer};
 
 // What an answer holds. An item is the place of its key and a number; a part of a save, how many bytes, and whether they are the last.
 pub enum Held {
@@ -27,7 +28,7 @@ pub enum Held {
 pub struct Shown(pub usize, pub Held);
 
 pub fn shown_by(a: Answer) -> Shown
-    ensures { λ r. ⌜ (getD words (r .0) [] ≡ nameOf a) × (r .1 ≡ heldBy a) ⌝ }
+    ensures { λ r. ⌜ (getD words (r .0) [] ≡ nameOf a) × (r .1 ≡ heldBy a) × (eqb (r .0) (wordOf "25/BadSettings") ≡ isOutOfRange a) ⌝ }
 {
     match a {
         Answer::Done => Shown(0, Held::Fine),
@@ -67,6 +68,13 @@ pub fn shown_by(a: Answer) -> Shown
         Answer::CarTwice => Shown(29, Held::Blank),
         Answer::NoSave => Shown(32, Held::Blank),
     }
+}
+
+pub fn is_out_of_range(a: Answer) -> bool
+    ensures { λ r. ⌜ r ≡ isOutOfRange a ⌝ }
+{
+    let s = shown_by(a);
+    s.0 == word::BAD_SETTINGS
 }
 
 pub fn kind_word(k: Kind) -> usize

@@ -1,13 +1,15 @@
-// The cars of a store, with the phones validated for each.
+// The paired phones, and the cars of a store with the phones validated for each.
 use crate::fields::Field;
 use crate::key;
 use crate::word;
+use phones::PhoneList;
 use saved_record::CarPhones;
 use saved_record::Store;
 ghost use mathlib.Core.Path.{_≡_};
+ghost use Rattle.phones.specs.Phones.{phonesOf};
 ghost use Rattle.saved_record.specs.Store.{carOf, carsOf};
 ghost use Rattle.replay_lines.specs.Page.{page};
-ghost use Rattle.replay_lines.specs.Cars.{noCar, car, cars};
+ghost use Rattle.replay_lines.specs.Cars.{noCar, car, cars, lists};
 
 fn put_no_car(out: &mut [u8], at: usize) -> usize
     ensures { λ r. ⌜ page (now (out .exit)) r ≡ noCar (page (now (out .entry)) at) ⌝ }
@@ -26,7 +28,7 @@ fn put_car(out: &mut [u8], at: usize, c: CarPhones) -> usize
     crate::parts::put_phones(out, k, list)
 }
 
-pub fn put_cars(out: &mut [u8], at: usize, s: Store) -> usize
+fn put_cars(out: &mut [u8], at: usize, s: Store) -> usize
     ensures { λ r. ⌜ page (now (out .exit)) r ≡ cars (carsOf s) (page (now (out .entry)) at) ⌝ }
 {
     let n = saved_record::clamp_cars(s.count);
@@ -42,4 +44,12 @@ pub fn put_cars(out: &mut [u8], at: usize, s: Store) -> usize
         i += 1;
     }
     k
+}
+
+pub fn put_lists(out: &mut [u8], at: usize, paired: PhoneList, store: Store) -> usize
+    ensures { λ r. ⌜ page (now (out .exit)) r ≡ lists (phonesOf paired) (carsOf store) (page (now (out .entry)) at) ⌝ }
+{
+    let k = crate::fields::put_field(out, at, b"", Field::Key(key::PAIRED));
+    let k = crate::parts::put_phones(out, k, paired);
+    put_cars(out, k, store)
 }

@@ -1,6 +1,6 @@
 // The keys of the fields, a row to a line, and the place of each.
 
-pub const KEYS: [u8; 628] = *b" answer=
+pub const KEYS: [u8; 643] = *b" answer=
  count=
  number=
  reason=
@@ -60,6 +60,7 @@ pub const KEYS: [u8; 628] = *b" answer=
  end=
  save=
  at=
+ record_bytes=
 ";
 
 pub const ANSWER: usize = 0;
@@ -181,3 +182,5 @@ pub const END: usize = 57;
 pub const SAVE: usize = 58;
 
 pub const AT: usize = 59;
+
+pub const RECORD_BYTES: usize = 60;

@@ -53,6 +53,8 @@ never
 
 pub const NONE: usize = 3;
 
+pub const BAD_SETTINGS: usize = 28;
+
 pub const CODE: usize = 33;
 
 pub const ACTION: usize = 34;

@@ -8,7 +8,7 @@ ghost use Rattle.word_table.specs.Words.{linesOf, restOf, placeIn};
 ghost use Rattle.replay_names.specs.Names as Names;
 ghost use Rattle.replay_names.specs.Names.{rows, keys, exactly, wanted};
 
-const ROWS: [u8; 1579] = *b"new settings methods
+const ROWS: [u8; 1742] = *b"new settings methods
 start_validation phone method now random
 submit_validation_code phone code now
 cancel_validation phone now
@@ -66,6 +66,11 @@ phone_access_state now
 validation_methods
 current_validation_challenge
 encode_phone_validations
+preview_remove_paired_phone phone
+preview_forget_phone_validation phone
+preview_clear_paired_phones
+preview_prune_phone_validations
+preview_approve_can_read_write
 set_counters next_session relocks
 state
 convert_phone_validations record target output
@@ -83,7 +88,7 @@ pub fn name_of(word: &[u8]) -> usize
 pub fn is_name(name: usize) -> bool
     ensures { λ r. ⌜ r ≡ ltb name (length rows) ⌝ }
 {
-    name < 62
+    name < 67
 }
 
 const KEYS: [u8; 173] = *b"phone

@@ -1,11 +1,11 @@
 -- How a reply is laid down.
-use Rattle.answers.specs.Query.{Reply, plain, approval, access, phones, trust, peer, phoneAccess, methods, challenge, saved}
-use Rattle.phones.specs.declared.PhoneList.{PhoneList}
+use Rattle.answers.specs.Query.{plain, approval, access, phones, trust, peer, phoneAccess, methods, challenge, saved, preview}
+use Rattle.definition.specs.Gate.{PackedReply}
 use Rattle.replay_lines.specs.Answer.{answer}
 use Rattle.replay_lines.specs.Page.{Page}
 use Rattle.replay_answers.specs.Query as Lines
 
-abbrev pub shown : Reply PhoneList → Page → Page
+abbrev pub shown : PackedReply → Page → Page
 shown (plain a) p = answer a p
 shown (approval a) p = Lines.approval a p
 shown (access a) p = Lines.access a p
@@ -16,3 +16,4 @@ shown (phoneAccess a) p = Lines.phoneAccess a p
 shown (methods a) p = Lines.methods a p
 shown (challenge a) p = Lines.challenge a p
 shown (saved a) p = Lines.encoded a p
+shown (preview a paired store n) p = Lines.preview (record { answer = a; paired = paired; store = store; bytes = n }) p

@@ -53,14 +53,11 @@ pub fn put_long(
 ) -> usize
     ensures { λ r. ⌜ (page (now (out .exit)) r ≡ shown (step g (ask (longQuery name i (lentBytes p (now (room .entry))))) .answer) (page (now (out .entry)) at)) × Within longRoom (shown (step g (ask (longQuery name i (lentBytes p (now (room .entry))))) .answer)) ⌝ }
 {
+    let phone = replay_items::bytes::lent(room, 0, p.phone);
     match name {
         1 => replay_answers::put_access(out, at, queries::can_access_state(g)),
         2 => { replay_answers::put_phones_listed(out, at, queries::list_paired_phones(g)) }
-        3 => {
-            let phone = replay_items::bytes::lent(room, 0, p.phone);
-            let level = queries::phone_trust_level(g, phone);
-            replay_answers::put_trust(out, at, level)
-        }
+        3 => { replay_answers::put_trust(out, at, queries::phone_trust_level(g, phone)) }
         4 => replay_answers::put_peer(out, at, queries::ble_peer(g)),
         5 => {
             let access = queries::phone_access_state(g, i.numbers.clock.value);
@@ -69,6 +66,17 @@ pub fn put_long(
         6 => replay_answers::put_methods(out, at, queries::validation_methods(g)),
         7 => { replay_answers::put_challenge(out, at, queries::current_validation_challenge(g)) }
         8 => { replay_answers::put_encoded(out, at, queries::encode_phone_validations(g)) }
+        9 => {
+            let told = previews::preview_remove_paired_phone(g, phone);
+            replay_answers::put_preview(out, at, told)
+        }
+        10 => {
+            let told = previews::preview_forget_phone_validation(g, phone);
+            replay_answers::put_preview(out, at, told)
+        }
+        11 => { replay_answers::put_preview(out, at, previews::preview_clear_paired_phones(g)) }
+        12 => { replay_answers::put_preview(out, at, previews::preview_prune_phone_validations(g)) }
+        13 => { replay_answers::put_preview(out, at, previews::preview_approve_can_read_write(g)) }
         _ => { replay_answers::put_approval(out, at, queries::can_read_write_approval(g)) }
     }
 }

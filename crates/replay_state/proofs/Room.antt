@@ -34,9 +34,9 @@ use Rattle.state.proofs.Validation as Validation
 use Rattle.replay_lines.specs.Room.{Within}
 use Rattle.replay_lines.proofs.AnswerRoom.{Owned, method-ids}
 use Rattle.replay_lines.proofs.Room.{_⊕_, upto, either, same, text-in, known-in, comma-in, item-in, flag-in, word-in, id-in, method-in}
-use Rattle.replay_lines.proofs.StoreRoom.{saved-in, list-in, cars-in}
+use Rattle.replay_lines.proofs.StoreRoom.{saved-in, lists-in}
 use Rattle.replay_running.proofs.Room.{session-in, probe-in}
-use Rattle.replay_state.specs.Whole.{settings, methodAt, methodsTo, identity, access, buses, policy, peer, pairings, front, save, gate}
+use Rattle.replay_state.specs.Whole.{settings, methodAt, methodsTo, identity, access, buses, policy, peer, front, save, gate}
 
 settings-in : (s : Settings) (vs : List Val) → Owned Settings.the-field s vs → Within 186 (settings s)
 unfolding settings
@@ -66,14 +66,14 @@ access-in s vs h =
     text-in (ascii " approval=") ⊕ known-in (s .approval .known) (s .approval .digest) (le-of-eq (search needs))
     ⊕ flag-in (ascii " dev_unlocked=") (s .unlocked) ⊕ flag-in (ascii " production=") (s .production)
 
-buses-in : (s : Buses) → Within 61 (buses s)
+buses-in : (s : Buses) → Within 53 (buses s)
 unfolding buses
 buses-in s =
     flag-in (ascii " vehicle_read_only=") (s .«vehicle_read_only») ⊕ flag-in (ascii " logging=") (s .logging)
     ⊕ flag-in (ascii " fd=") (getD (s .fd) 0 false) ⊕ flag-in (ascii ",") (getD (s .fd) 1 false) ⊕ flag-in (ascii ",") (getD (s .fd) 2 false)
-    ⊕ flag-in (ascii ",") (getD (s .fd) 3 false) ⊕ text-in (ascii " paired=")
+    ⊕ flag-in (ascii ",") (getD (s .fd) 3 false)
 
-policy-in : (s : Policy) (vs : List Val) → Owned Policy.the-field s vs → Within 296 (policy s)
+policy-in : (s : Policy) (vs : List Val) → Owned Policy.the-field s vs → Within 288 (policy s)
 unfolding policy
 policy-in s vs h = identity-in (s .identity) _ (h .1 .1 .0) ⊕ access-in (s .access) _ (h .1 .1 .1 .0) ⊕ buses-in (s .buses)
 
@@ -83,15 +83,11 @@ peer-in id vs h =
     either (eqb (id .len) 0) (upto 70 (lit≤ tt) (word-in (ascii " peer=") (ascii "none") 4 (lit≤ tt)))
     (text-in (ascii " peer=") ⊕ id-in id (le-of-eq (search needs)))
 
-pairings-in : (l : Phones) (vs : List Val) → Owned Phones.the-field l vs → Within 10760 (pairings l)
-unfolding pairings
-pairings-in l vs h = list-in (l .paired) _ (h .1 .1 .0) ⊕ cars-in (l .store) _ (h .1 .1 .1 .0)
-
 front-in : (c : Core) (l : Phones) (vs us : List Val) → Owned Core.the-field c vs → Owned Phones.the-field l us → Within 11984 (front c l)
 unfolding front
 front-in c l vs us h k =
     settings-in (c .settings) _ (h .1 .1 .0) ⊕ methods-in (c .methods) (method-ids (c .methods .list) _ (h .1 .1 .1 .0 .1 .1 .0 .1 .1)) 8
-    ⊕ policy-in (c .policy) _ (h .1 .1 .1 .1 .0) ⊕ pairings-in l us k ⊕ peer-in (c .peer) _ (h .1 .1 .1 .1 .1 .0)
+    ⊕ policy-in (c .policy) _ (h .1 .1 .1 .1 .0) ⊕ lists-in (l .paired) (l .store) _ _ (k .1 .1 .0) (k .1 .1 .1 .0) ⊕ peer-in (c .peer) _ (h .1 .1 .1 .1 .1 .0)
 
 save-in : (s : Save) (vs : List Val) → Owned Save.the-field s vs → Within 8746 (save s)
 unfolding save

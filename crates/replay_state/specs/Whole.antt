@@ -18,9 +18,9 @@ use Rattle.state.specs.declared.Phones.{Phones}
 use Rattle.state.specs.declared.Policy.{Policy}
 use Rattle.state.specs.declared.Save.{Save}
 use Rattle.state.specs.declared.Settings.{Settings}
-use Rattle.replay_lines.specs.Cars.{cars}
+use Rattle.replay_lines.specs.Cars.{lists}
 use Rattle.replay_lines.specs.Page.{Page, _▸_, text, bytes, known, comma, item, flag, word}
-use Rattle.replay_lines.specs.Parts.{idsFrom, method}
+use Rattle.replay_lines.specs.Parts.{method}
 use Rattle.replay_running.specs.Probe.{probe}
 use Rattle.replay_running.specs.Session.{sessionOrNone}
 
@@ -56,7 +56,7 @@ unfoldable pub buses : Buses → Page → Page
 buses s p =
     p ▸ flag (ascii " vehicle_read_only=") (s .«vehicle_read_only») ▸ flag (ascii " logging=") (s .logging)
     ▸ flag (ascii " fd=") (getD (s .fd) 0 false) ▸ flag (ascii ",") (getD (s .fd) 1 false) ▸ flag (ascii ",") (getD (s .fd) 2 false)
-    ▸ flag (ascii ",") (getD (s .fd) 3 false) ▸ text (ascii " paired=")
+    ▸ flag (ascii ",") (getD (s .fd) 3 false)
 
 unfoldable pub policy : Policy → Page → Page
 policy s p = p ▸ identity (s .identity) ▸ access (s .access) ▸ buses (s .buses)
@@ -65,11 +65,10 @@ policy s p = p ▸ identity (s .identity) ▸ access (s .access) ▸ buses (s .b
 unfoldable pub peer : ShortId → Page → Page
 peer id p = cond (eqb (id .len) 0) (p ▸ word (ascii " peer=") (ascii "none")) (p ▸ text (ascii " peer=") ▸ bytes (idBytes id))
 
-unfoldable pub pairings : Phones → Page → Page
-pairings l p = p ▸ idsFrom 0 (phonesOf (l .paired)) ▸ cars (carsOf (l .store))
-
 unfoldable pub front : Core → Phones → Page → Page
-front core l p = p ▸ settings (core .settings) ▸ methodsTo (core .methods) 8 ▸ policy (core .policy) ▸ pairings l ▸ peer (core .peer)
+front core l p =
+    p ▸ settings (core .settings) ▸ methodsTo (core .methods) 8 ▸ policy (core .policy)
+    ▸ lists (phonesOf (l .paired)) (carsOf (l .store)) ▸ peer (core .peer)
 
 -- a save that is open: its whole record, and how far it was taken
 unfoldable pub save : Save → Page → Page

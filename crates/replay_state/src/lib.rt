@@ -16,7 +16,7 @@ use state::Settings;
 ghost use mathlib.Core.Path.{_≡_};
 ghost use Prim.Native.Nat.{_<_};
 ghost use Rattle.replay_lines.specs.Page.{page};
-ghost use Rattle.replay_state.specs.Whole.{settings, methodAt, methodsTo, identity, access, buses, policy, peer, pairings, front, save, gate};
+ghost use Rattle.replay_state.specs.Whole.{settings, methodAt, methodsTo, identity, access, buses, policy, peer, front, save, gate};
 
 fn put_settings(out: &mut [u8], at: usize, s: Settings) -> usize
     ensures { λ r. ⌜ page (now (out .exit)) r ≡ settings s (page (now (out .entry)) at) ⌝ }
@@ -108,7 +108,7 @@ fn put_buses(out: &mut [u8], at: usize, b: Buses) -> usize
         Field::Flag(key::COMMA, on[1]),
         Field::Flag(key::COMMA, on[2]),
         Field::Flag(key::COMMA, on[3]),
-        Field::Key(key::PAIRED),
+        Field::Nothing,
         Field::Nothing,
     ];
     replay_lines::fields::put_fields(out, at, b"", fields)
@@ -122,15 +122,6 @@ fn put_peer(out: &mut [u8], at: usize, id: ShortId) -> usize
     }
     let all = id.bytes;
     replay_lines::fields::put_field(out, at, &all, Field::Bytes(key::PEER, id.len))
-}
-
-fn put_pairings(out: &mut [u8], at: usize, l: Phones) -> usize
-    ensures { λ r. ⌜ page (now (out .exit)) r ≡ pairings l (page (now (out .entry)) at) ⌝ }
-{
-    let list = l.paired;
-    let k = replay_lines::parts::put_phones(out, at, list);
-    let s = l.store;
-    replay_lines::cars::put_cars(out, k, s)
 }
 
 fn put_policy(out: &mut [u8], at: usize, p: Policy) -> usize
@@ -153,7 +144,9 @@ fn put_front(out: &mut [u8], at: usize, core: Core, l: Phones) -> usize
     let k = put_method_list(out, k, m);
     let p = core.policy;
     let k = put_policy(out, k, p);
-    let k = put_pairings(out, k, l);
+    let paired = l.paired;
+    let store = l.store;
+    let k = replay_lines::cars::put_lists(out, k, paired, store);
     let id = core.peer;
     put_peer(out, k, id)
 }

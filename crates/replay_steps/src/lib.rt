@@ -173,7 +173,7 @@ const CAN_CALLS: usize = 18;
 
 const PLAIN_QUERIES: usize = 17;
 
-const LONG_QUERIES: usize = 9;
+const LONG_QUERIES: usize = 14;
 
 // Runs a line whose items are right. `name` is the number of its row; each kind counts its own from 0.
 pub fn run(

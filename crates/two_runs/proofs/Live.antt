@@ -6,7 +6,6 @@ use mathlib.Core.List.{List, [], _∷_, map}
 use Prim.Native.Nat.{ℕ}
 use lib.ListN.{length, drop, replicate}
 use Rattle.arrays.specs.Arrays.{padded, sameBytes}
-use Rattle.phones.specs.declared.PhoneList.{PhoneList}
 use Rattle.phones.specs.Ids.{allOf, contains, joined, someOf}
 use Rattle.phones.specs.Phones.{idBytes, idInRange, idOf, idsIn, listInRange, listOf, phonesOf, tooLong}
 use Rattle.draw.specs.Draw.{digits, drawLimit, drawn, firstBelow, group}
@@ -39,10 +38,10 @@ use Rattle.session.specs.Session as Session
 use Rattle.validation.specs.Calls as Validation
 use Rattle.answers.specs.declared.ChallengeAnswer.{ChallengeAnswer}
 use Rattle.answers.specs.Query as Query
-use Rattle.answers.specs.Query.{Reply, plain}
+use Rattle.answers.specs.Query.{plain}
 use Rattle.new_gate.specs.New as New
 use Rattle.definition.specs.Gate as Gate
-use Rattle.definition.specs.Gate.{Call, newGateCall, startValidation, submitValidationCode, onSession, onLists, onSave, onCore, ask, Given, after}
+use Rattle.definition.specs.Gate.{PackedReply, Call, newGateCall, startValidation, submitValidationCode, onSession, onLists, onSave, onCore, ask, Given, after}
 use Rattle.two_runs.specs.Demand.{blanked, hideGate, hideChallenge, hideSignals, hideReply, seen, run, codeRuns, Alike, starts, submits, news, sessionCalls, listCalls, saveCalls, coreCalls, asks, TwoRuns, end, next, judgedWrong, begins, Tally, parts, sessions, AlikeGates}
 use Rattle.two_runs.specs.Refills as Refills
 use Rattle.two_runs.proofs.Digits.{same-length, same-past}
@@ -134,10 +133,10 @@ abbrev cooling : SessionReply → SessionReply
 cooling r = record { method = r .method; kind = r .kind; status = r .status; length = r .length; tries = r .tries; seconds = r .seconds; cooldown = 30 }
 
 -- both runs answer: it runs; 10 with two tries left; it succeeded, and the tries are full
-abbrev pub answers : List (Reply PhoneList)
+abbrev pub answers : List PackedReply
 answers = plain (Answer.Session (shows InProgress 3 60)) ∷ plain (Answer.WrongCode (shows InProgress 2 59)) ∷ plain (Answer.Session (shows Succeeded 3 0)) ∷ []
 
-abbrev pub answersOf : List Given → List (Reply PhoneList)
+abbrev pub answersOf : List Given → List PackedReply
 answersOf os = map (λ (o : Given). o .answer) os
 
 -- ---- a run that meets the bound: three wrong codes, the end of the cooldown, and a start
@@ -164,7 +163,7 @@ two-phones =
 abbrev pub refill-tallies : List Tally
 refill-tallies = record { tries = 3; wrong = 3 } ∷ record { tries = 3; wrong = 0 } ∷ []
 
-abbrev pub two-phones-answers : List (Reply PhoneList)
+abbrev pub two-phones-answers : List PackedReply
 two-phones-answers =
     plain (Answer.Session (shows InProgress 3 60)) ∷ plain (Answer.WrongCode (shows InProgress 2 59)) ∷ plain Answer.Done ∷ plain (Answer.Session (shows InProgress 2 60))
     ∷ plain (Answer.WrongCode (shows InProgress 1 59)) ∷ plain (Answer.WrongCode (cooling (shows Failed 3 0))) ∷ plain (Answer.Session (shows InProgress 3 60)) ∷ []
@@ -224,7 +223,7 @@ same-challenge c d e =
     }
 
 -- the only reply that holds digits
-abbrev pub isChallenge : Reply PhoneList → Bool
+abbrev pub isChallenge : PackedReply → Bool
 isChallenge (plain a) = false
 isChallenge (Query.approval a) = false
 isChallenge (Query.access a) = false
@@ -235,9 +234,10 @@ isChallenge (Query.phoneAccess a) = false
 isChallenge (Query.methods a) = false
 isChallenge (Query.challenge a) = true
 isChallenge (Query.saved a) = false
+isChallenge (Query.preview a paired store n) = false
 
 -- any other reply is not hidden, and none is hidden as one of another kind
-any-other : (r : Reply PhoneList) → (isChallenge r ≡ false → hideReply r ≡ r) × (isChallenge (hideReply r) ≡ isChallenge r)
+any-other : (r : PackedReply) → (isChallenge r ≡ false → hideReply r ≡ r) × (isChallenge (hideReply r) ≡ isChallenge r)
 any-other (plain a) = (λ e. refl, refl)
 any-other (Query.approval a) = (λ e. refl, refl)
 any-other (Query.access a) = (λ e. refl, refl)
@@ -248,6 +248,7 @@ any-other (Query.phoneAccess a) = (λ e. refl, refl)
 any-other (Query.methods a) = (λ e. refl, refl)
 any-other (Query.challenge a) = (λ e. absurd (true≢false e), refl)
 any-other (Query.saved a) = (λ e. refl, refl)
+any-other (Query.preview a paired store n) = (λ e. refl, refl)
 
 -- what two outcomes that look alike have in common
 pub record OnlyDigits (o p : Given) : Type 0 where
@@ -268,7 +269,7 @@ pub record OnlyDigits (o p : Given) : Type 0 where
   pub long : length (o .gate .code) ≡ length (p .gate .code)
   pub past : drop (o .gate .core .settings .digits) (o .gate .code) ≡ drop (o .gate .core .settings .digits) (p .gate .code)
 
-same-answer : (r s : Reply PhoneList) → hideReply r ≡ hideReply s → isChallenge r ≡ false → r ≡ s
+same-answer : (r s : PackedReply) → hideReply r ≡ hideReply s → isChallenge r ≡ false → r ≡ s
 same-answer r s e k =
     let m : isChallenge s ≡ false = sym (any-other s .1) ∙ sym (ap isChallenge e) ∙ any-other r .1 ∙ k in
     sym (any-other r .0 k) ∙ e ∙ any-other s .0 m

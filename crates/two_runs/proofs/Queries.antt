@@ -9,7 +9,7 @@ use Rattle.state.specs.View.{View}
 use Rattle.range.specs.Range.{inRange}
 use Rattle.answers.specs.Answers.{ifInRange, approvalAnswer, accessAnswer, trustAnswer, recordAnswer, peerAnswer, phoneAccessAnswer, methodsAnswer, shownDigits, challengeOf, noChallengeNow, challengeAnswer}
 use Rattle.answers.specs.Query as Query
-use Rattle.answers.specs.Query.{Query, Reply, numberedReply, answerTo}
+use Rattle.answers.specs.Query.{Query, numberedReply, answerTo, ReplyByIds}
 use Rattle.definition.specs.Gate.{laidReply}
 use Rattle.two_runs.specs.Demand.{blanked, hideChallenge, hideReply}
 use Rattle.two_runs.proofs.Digits.{blanked-shown}
@@ -19,7 +19,7 @@ abbrev pub recoded : View → List ℕ → View
 recoded v other = record { core = v .core; lists = v .lists; pairedFits = v .pairedFits; storeFits = v .storeFits; save = v .save; code = other }
 
 -- replies that look alike as they are returned
-abbrev pub SameReply : Reply (List (List ℕ)) → Reply (List (List ℕ)) → Type 0
+abbrev pub SameReply : ReplyByIds → ReplyByIds → Type 0
 SameReply r r′ = (numberedReply r ≡ numberedReply r′) × (hideReply (laidReply r) ≡ hideReply (laidReply r′))
 
 module _ (v : View) (other : List ℕ) (e : blanked (v .core .settings .digits) (v .code) ≡ blanked (v .core .settings .digits) other) where
@@ -39,7 +39,7 @@ module _ (v : View) (other : List ℕ) (e : blanked (v .core .settings .digits) 
   unfolding answerTo challengeAnswer inRange
   challenge-as = go (inRange v) (inProgress (v .core .validation .session))
     where
-      at : Bool → Bool → List ℕ → Reply (List (List ℕ))
+      at : Bool → Bool → List ℕ → ReplyByIds
       at x y held = Query.challenge (cond x (cond y (record { answer = Done; challenge = challengeOf (v .core) held }) (noChallengeNow Nothing)) (noChallengeNow BadSettings))
 
       go : (x y : Bool) → SameReply (at x y (v .code)) (at x y other)
@@ -49,7 +49,7 @@ module _ (v : View) (other : List ℕ) (e : blanked (v .core .settings .digits) 
 
 pub answer-as : (v : View) (other : List ℕ) → blanked (v .core .settings .digits) (v .code) ≡ blanked (v .core .settings .digits) other → (q : Query)
     → SameReply (answerTo v q) (answerTo (recoded v other) q)
-unfolding answerTo ifInRange approvalAnswer accessAnswer trustAnswer recordAnswer peerAnswer phoneAccessAnswer methodsAnswer inRange
+unfolding answerTo ifInRange approvalAnswer accessAnswer trustAnswer recordAnswer peerAnswer phoneAccessAnswer methodsAnswer Query.previewOf inRange
 answer-as v other e Query.isCanReadOnly = (refl, refl)
 answer-as v other e Query.canReadOnlyReason = (refl, refl)
 answer-as v other e Query.isCarIdentityConfirmed = (refl, refl)
@@ -76,3 +76,8 @@ answer-as v other e Query.validationMethods = (refl, refl)
 answer-as v other e (Query.sessionFor phone clock) = (refl, refl)
 answer-as v other e Query.currentValidationChallenge = challenge-as v other e
 answer-as v other e Query.encodePhoneValidations = (refl, refl)
+answer-as v other e (Query.previewRemovePairedPhone id) = (refl, refl)
+answer-as v other e (Query.previewForgetPhoneValidation id) = (refl, refl)
+answer-as v other e Query.previewClearPairedPhones = (refl, refl)
+answer-as v other e Query.previewPrunePhoneValidations = (refl, refl)
+answer-as v other e Query.previewApproveCanReadWrite = (refl, refl)

@@ -20,7 +20,7 @@ use Rattle.state.specs.View.{View, Listing, view, laidPhones}
 use Rattle.range.specs.Range.{inRange}
 use Rattle.save.specs.Save.{Saving}
 use Rattle.validation.specs.Calls.{submit}
-use Rattle.answers.specs.Query.{Reply, plain}
+use Rattle.answers.specs.Query.{plain, ReplyByIds}
 use Rattle.definition.specs.Gate.{Call, Says, saying, asked, served, ofSession, ofLists, ofSave, says, fullFor, Lent, lentTo, lentAfter, left, gives, packed, step, after}
 use Rattle.two_runs.specs.Demand.{blanked, hideGate, hideChallenge, hideSignals, seen, run, codeRuns, isRight, comesToDraw, judges, Alike, starts, submits, news, sessionCalls, listCalls, saveCalls, coreCalls, asks, TwoRuns, end, next, EqualButDigits, AlikeGates, StayAlike, over, place, LookAlike}
 use Rattle.two_runs.proofs.Digits.{blanked-drawn}
@@ -46,7 +46,7 @@ module _ (g : Gate) (other : List ℕ) (e : blanked (g .core .settings .digits) 
   abbrev there : View
   there = recoded (view g) other
 
-  twin-asked : {m : Lent} (r r′ : Reply (List (List ℕ))) → SameReply r r′ → Twin g other m m (asked here r) (asked there r′)
+  twin-asked : {m : Lent} (r r′ : ReplyByIds) → SameReply r r′ → Twin g other m m (asked here r) (asked there r′)
   unfolding seen gives left hideGate view
   twin-asked {m} r r′ a = record {
     look = λ i. record {

@@ -7,7 +7,6 @@ use Prim.Native.Nat.{ℕ, _+_, _≤_, zero-le}
 use native.Mathlib.Nat.{le-refl}
 use native.Mathlib.Omega.{arith}
 use lib.Dec.{eqb}
-use Rattle.phones.specs.declared.PhoneList.{PhoneList}
 use Rattle.draw.specs.Draw.{drawn}
 use Rattle.text.specs.Text.{isText}
 use Rattle.state.specs.declared.Method.{Method}
@@ -18,10 +17,10 @@ use Rattle.state.specs.declared.Answer.the-variants.{BadSettings}
 use Rattle.state.specs.Running.{inProgress, codeInProgress}
 use Rattle.state.specs.View.{View, view}
 use Rattle.range.specs.Range.{settingsFit, methodsIn, inRange}
-use Rattle.answers.specs.Query.{Reply, plain, numberedReply}
+use Rattle.answers.specs.Query.{plain, numberedReply}
 use Rattle.new_gate.specs.New.{newCore, Made, madeCore}
 use Rattle.definition.specs.Gate as Gate
-use Rattle.definition.specs.Gate.{Call, Says, isLent, fullFor, saying, asked, served, says, laidReply, gives, step, after}
+use Rattle.definition.specs.Gate.{PackedReply, Call, Says, isLent, fullFor, saying, asked, served, says, laidReply, gives, step, after}
 use Rattle.footprint.proofs.Keeps.{either}
 use Rattle.two_runs.specs.Demand.{codeRuns, isRight, numberOf, judgedWrong, begins, Within, parts, sessions, Every, nil, both}
 use Rattle.two_runs.specs.Refills.{sessionRefills, submitRefills, refills, Refilled}
@@ -36,7 +35,7 @@ none-more x y h = omega arith
 -- `left` is how many codes may still be judged wrong before a call cuts the run; such a call judges no more than that, and any other one
 -- takes from it what it judges wrong
 module _
-    (cuts : Call → Reply PhoneList → Bool)
+    (cuts : Call → PackedReply → Bool)
     (left : Gate → ℕ)
     (set : (g : Gate) → left g ≤ g .core .settings .tries)
     (last : (g : Gate) (c : Call) → cuts c (step g c .answer) ≡ true → judgedWrong c (step g c .answer) ≤ left g)

@@ -5,7 +5,6 @@ use mathlib.Core.Path.{_≡_}
 use mathlib.Core.Bool.{Bool, true, false, cond, _&&_}
 use mathlib.Core.List.{List, [], _∷_, map}
 use lib.Dec.{eqb}
-use Rattle.phones.specs.declared.PhoneList.{PhoneList}
 use Rattle.state.specs.declared.Core.{Core}
 use Rattle.state.specs.declared.Gate.{Gate}
 use Rattle.state.specs.declared.Challenge.{Challenge}
@@ -19,8 +18,8 @@ use Rattle.draw.specs.Draw.{drawn}
 use Rattle.text.specs.Text.{isText, right}
 use Rattle.validation.specs.Calls.{draws, tick}
 use Rattle.answers.specs.Query as Query
-use Rattle.answers.specs.Query.{Query, Reply, numberedReply}
-use Rattle.definition.specs.Gate.{SessionCall, ListCall, SaveCall, CoreCall, Call, newGateCall, startValidation, submitValidationCode, onSession, onLists, onSave, onCore, ask, Given, isLent, step, after}
+use Rattle.answers.specs.Query.{Query, numberedReply}
+use Rattle.definition.specs.Gate.{PackedReply, SessionCall, ListCall, SaveCall, CoreCall, Call, newGateCall, startValidation, submitValidationCode, onSession, onLists, onSave, onCore, ask, Given, isLent, step, after}
 
 -- ---- what is left out: the digits, and not their number
 
@@ -47,7 +46,7 @@ hideSignals s = record {
   challenge = record { sent = s .challenge .sent; challenge = hideChallenge (s .challenge .challenge) };
 }
 
-abbrev pub hideReply : Reply PhoneList → Reply PhoneList
+abbrev pub hideReply : PackedReply → PackedReply
 hideReply (Query.plain a) = Query.plain a
 hideReply (Query.approval a) = Query.approval a
 hideReply (Query.access a) = Query.access a
@@ -58,6 +57,7 @@ hideReply (Query.phoneAccess a) = Query.phoneAccess a
 hideReply (Query.methods a) = Query.methods a
 hideReply (Query.challenge a) = Query.challenge (record { answer = a .answer; challenge = hideChallenge (a .challenge) })
 hideReply (Query.saved a) = Query.saved a
+hideReply (Query.preview a paired store n) = Query.preview a paired store n
 
 -- a call's whole outcome without the digits; lent memory is compared whole
 unfoldable pub seen : Given → Given
@@ -117,11 +117,11 @@ pub data TwoRuns : Gate → Gate → List Call → List Call → Type 0 where
 -- ---- sessions: from a start that is not refused to the next such start; the calls before the first make up one too
 
 -- document 01's number of the answer that a reply is or begins with; 0 for one that is no refusal
-abbrev pub numberOf : Reply PhoneList → ℕ
+abbrev pub numberOf : PackedReply → ℕ
 numberOf r = numberedReply r .number
 
 -- a code is judged wrong where submit answers 10
-unfoldable pub judgedWrong : Call → Reply PhoneList → ℕ
+unfoldable pub judgedWrong : Call → PackedReply → ℕ
 judgedWrong (newGateCall settings methods count) a = 0
 judgedWrong (startValidation phone method clock random) a = 0
 judgedWrong (submitValidationCode phone typed clock) a = cond (eqb (numberOf a) 10) 1 0
@@ -132,7 +132,7 @@ judgedWrong (onCore k) a = 0
 judgedWrong (ask q) a = 0
 
 -- a session begins with a start that is not refused
-unfoldable pub begins : Call → Reply PhoneList → Bool
+unfoldable pub begins : Call → PackedReply → Bool
 begins (newGateCall settings methods count) a = false
 begins (startValidation phone method clock random) a = eqb (numberOf a) 0
 begins (submitValidationCode phone typed clock) a = false
@@ -148,7 +148,7 @@ pub record Tally : Type 0 where
   pub wrong : ℕ
 
 -- a run in parts, cut behind each call of which `cuts` is true; `tries` and `count` are those of the part so far
-abbrev pub parts : (Call → Reply PhoneList → Bool) → ℕ → ℕ → Gate → List Call → List Tally
+abbrev pub parts : (Call → PackedReply → Bool) → ℕ → ℕ → Gate → List Call → List Tally
 parts cuts tries count g [] = record { tries = tries; wrong = count } ∷ []
 parts cuts tries count g (c ∷ cs) = elim (cuts c (step g c .answer)) [
   | true ↦ record { tries = tries; wrong = count + judgedWrong c (step g c .answer) } ∷ parts cuts (after g c .core .settings .tries) 0 (after g c) cs

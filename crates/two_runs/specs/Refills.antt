@@ -4,13 +4,12 @@ use Prim.Native.Nat.{ℕ}
 use mathlib.Core.Bool.{Bool, true, false, _&&_, _||_}
 use mathlib.Core.List.{List}
 use lib.Dec.{eqb}
-use Rattle.phones.specs.declared.PhoneList.{PhoneList}
 use Rattle.state.specs.declared.Status.{Status}
 use Rattle.state.specs.declared.Status.the-variants.{InProgress, Succeeded, Failed, Cancelled, TimedOut}
 use Rattle.state.specs.declared.Gate.{Gate}
 use Rattle.state.specs.Answers.{Values, noValue, done, yes, no, none, count, platform, reason, seconds, session, taken}
-use Rattle.answers.specs.Query.{Reply, numberedReply}
-use Rattle.definition.specs.Gate.{SessionCall, cancelValidation, completeValidationAction, tickValidation, Call, newGateCall, startValidation, submitValidationCode, onSession, onLists, onSave, onCore, ask}
+use Rattle.answers.specs.Query.{numberedReply}
+use Rattle.definition.specs.Gate.{PackedReply, SessionCall, cancelValidation, completeValidationAction, tickValidation, Call, newGateCall, startValidation, submitValidationCode, onSession, onLists, onSave, onCore, ask}
 use Rattle.two_runs.specs.Demand.{numberOf, Tally, Within, Every, parts}
 
 -- ---- the calls that refill: New gate, and a session's end as Succeeded or as Failed
@@ -59,7 +58,7 @@ sessionRefills (cancelValidation phone clock) v = false
 sessionRefills (completeValidationAction number clock) v = isYes v
 sessionRefills (tickValidation clock) v = false
 
-unfoldable pub refills : Call → Reply PhoneList → Bool
+unfoldable pub refills : Call → PackedReply → Bool
 refills (newGateCall settings methods n) a = true
 refills (startValidation phone method clock random) a = false
 refills (submitValidationCode phone typed clock) a = submitRefills (numberOf a) (numberedReply a .values)

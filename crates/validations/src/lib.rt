@@ -324,12 +324,19 @@ fn laid_from(s: Store, from: usize) -> Store
     }
 }
 
+// The whole store, in canonical form.
+pub fn canonical(s: Store) -> Store
+    ensures { λ r. ⌜ r ≡ storeOf (carsOf s) ⌝ }
+{
+    laid_from(s, 0)
+}
+
 // The car at a place has these phones now, a canonical list.
 fn put_phones(s: Store, at: usize, phones: PhoneList) -> Store
     requires { ⌜ at < length (carsOf s) ⌝ }
     ensures { λ r. ⌜ PhonesPut s at phones r ⌝ }
 {
-    let all = laid_from(s, 0);
+    let all = canonical(s);
     let count = all.count;
     let mut cars = all.cars;
     let one = cars[at];
@@ -361,7 +368,7 @@ fn add_car(s: Store, car: [u8; 32], p: ShortId) -> Store
         let others = laid_from(s, 1);
         return put_last(others, last);
     }
-    let all = laid_from(s, 0);
+    let all = canonical(s);
     put_last(all, last)
 }
 

@@ -74,7 +74,10 @@ impl Generator {
             let phone = self.random.pick(&[listed.clone(), listed, any]);
             let command = self.command_of(phone.clone());
             let record = self.gate.shelf.record();
+            let preview = self.preview();
             let call = self.random.pick(&[
+                preview.clone(),
+                preview,
                 Call::Encode {},
                 Call::IsValidated {
                     phone: phone.clone(),
@@ -120,7 +123,7 @@ impl Generator {
                 let several = matches!(record[..], [2, 2..=4, ..]);
                 (&mut self.one_car.records, several)
             }
-            Call::Approve {} => {
+            Call::Approve {} | Call::PreviewApprove {} => {
                 let another = identified().is_some_and(|car| holds_another(&self.gate, car));
                 (&mut self.one_car.approvals, another)
             }

@@ -9,6 +9,7 @@ mod guesses;
 mod lists;
 mod plans;
 mod pools;
+mod previews;
 mod random;
 mod records;
 mod saves;

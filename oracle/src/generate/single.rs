@@ -9,7 +9,8 @@ impl Generator {
     /// A call of any kind. Calls that undo much are rare.
     pub(super) fn any_call(&mut self) {
         let call = match self.random.below(100) {
-            0..=20 => self.query(),
+            0..=18 => self.query(),
+            19..=20 => self.preview(),
             21 => Call::OpenSave {},
             22..=23 => self.take(),
             24 => self.conversion(),

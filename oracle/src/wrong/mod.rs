@@ -6,6 +6,7 @@ mod cars;
 mod conversions;
 mod drawing;
 mod phones;
+mod previews;
 mod probe;
 mod records;
 mod saves;
@@ -59,6 +60,7 @@ pub fn all() -> Vec<Wrong> {
         records::RULES,
         conversions::RULES,
         saves::RULES,
+        previews::RULES,
         probe::RULES,
         access::RULES,
     ]

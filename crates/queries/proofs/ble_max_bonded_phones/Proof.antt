@@ -1,7 +1,7 @@
 use Rattle.answers.specs.Answers.{ifInRange}
 use Rattle.state.specs.View.{view}
 use Rattle.answers.specs.Query.{bleMaxBondedPhones, answerTo}
-use Rattle.queries.proofs.Laws.{by-query}
+use Rattle.definition.proofs.Asked.{by-query}
 use Rattle.queries.proofs.ble_max_bonded_phones.Statement.{statement}
 use Rattle.queries.proofs.ble_max_bonded_phones.Tie as tie
 

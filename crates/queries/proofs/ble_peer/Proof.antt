@@ -1,7 +1,7 @@
 use Rattle.answers.specs.Answers.{peerAnswer}
 use Rattle.state.specs.View.{view}
 use Rattle.answers.specs.Query.{blePeer, answerTo}
-use Rattle.queries.proofs.Laws.{by-query}
+use Rattle.definition.proofs.Asked.{by-query}
 use Rattle.queries.proofs.ble_peer.Statement.{statement}
 use Rattle.queries.proofs.ble_peer.Tie as tie
 

@@ -1,7 +1,7 @@
 use Rattle.answers.specs.Answers.{accessAnswer}
 use Rattle.state.specs.View.{view}
 use Rattle.answers.specs.Query.{canAccessState, answerTo}
-use Rattle.queries.proofs.Laws.{by-query}
+use Rattle.definition.proofs.Asked.{by-query}
 use Rattle.queries.proofs.can_access_state.Statement.{statement}
 use Rattle.queries.proofs.can_access_state.Tie as tie
 

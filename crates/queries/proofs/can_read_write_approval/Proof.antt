@@ -1,7 +1,7 @@
 use Rattle.answers.specs.Answers.{approvalAnswer}
 use Rattle.state.specs.View.{view}
 use Rattle.answers.specs.Query.{canReadWriteApproval, answerTo}
-use Rattle.queries.proofs.Laws.{by-query}
+use Rattle.definition.proofs.Asked.{by-query}
 use Rattle.queries.proofs.can_read_write_approval.Statement.{statement}
 use Rattle.queries.proofs.can_read_write_approval.Tie as tie
 

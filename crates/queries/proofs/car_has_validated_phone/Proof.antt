@@ -1,6 +1,6 @@
 use Rattle.state.specs.View.{view}
 use Rattle.answers.specs.Query.{carHasValidatedPhone, answerTo}
-use Rattle.queries.proofs.Laws.{by-query}
+use Rattle.definition.proofs.Asked.{by-query}
 use Rattle.queries.proofs.car_has_validated_phone.Statement.{statement}
 use Rattle.queries.proofs.car_has_validated_phone.Tie as tie
 

@@ -1,7 +1,7 @@
 use Rattle.answers.specs.Answers.{challengeAnswer}
 use Rattle.state.specs.View.{view}
 use Rattle.answers.specs.Query.{currentValidationChallenge, answerTo}
-use Rattle.queries.proofs.Laws.{by-query}
+use Rattle.definition.proofs.Asked.{by-query}
 use Rattle.queries.proofs.current_validation_challenge.Statement.{statement}
 use Rattle.queries.proofs.current_validation_challenge.Tie as tie
 

@@ -1,7 +1,7 @@
 use Rattle.answers.specs.Answers.{recordAnswer}
 use Rattle.state.specs.View.{view}
 use Rattle.answers.specs.Query.{encodePhoneValidations, answerTo}
-use Rattle.queries.proofs.Laws.{by-query}
+use Rattle.definition.proofs.Asked.{by-query}
 use Rattle.queries.proofs.encode_phone_validations.Statement.{statement}
 use Rattle.queries.proofs.encode_phone_validations.Tie as tie
 

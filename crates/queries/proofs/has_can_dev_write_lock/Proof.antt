@@ -1,6 +1,6 @@
 use Rattle.state.specs.View.{view}
 use Rattle.answers.specs.Query.{hasCanDevWriteLock, answerTo}
-use Rattle.queries.proofs.Laws.{by-query}
+use Rattle.definition.proofs.Asked.{by-query}
 use Rattle.queries.proofs.has_can_dev_write_lock.Statement.{statement}
 use Rattle.queries.proofs.has_can_dev_write_lock.Tie as tie
 

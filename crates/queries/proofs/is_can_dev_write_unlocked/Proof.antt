@@ -1,6 +1,6 @@
 use Rattle.state.specs.View.{view}
 use Rattle.answers.specs.Query.{isCanDevWriteUnlocked, answerTo}
-use Rattle.queries.proofs.Laws.{by-query}
+use Rattle.definition.proofs.Asked.{by-query}
 use Rattle.queries.proofs.is_can_dev_write_unlocked.Statement.{statement}
 use Rattle.queries.proofs.is_can_dev_write_unlocked.Tie as tie
 

@@ -1,6 +1,6 @@
 use Rattle.state.specs.View.{view}
 use Rattle.answers.specs.Query.{isCanFdBus, answerTo}
-use Rattle.queries.proofs.Laws.{by-query}
+use Rattle.definition.proofs.Asked.{by-query}
 use Rattle.queries.proofs.is_can_fd_bus.Statement.{statement}
 use Rattle.queries.proofs.is_can_fd_bus.Tie as tie
 

@@ -1,6 +1,6 @@
 use Rattle.state.specs.View.{view}
 use Rattle.answers.specs.Query.{isCanReadOnly, answerTo}
-use Rattle.queries.proofs.Laws.{by-query}
+use Rattle.definition.proofs.Asked.{by-query}
 use Rattle.queries.proofs.is_can_read_only.Statement.{statement}
 use Rattle.queries.proofs.is_can_read_only.Tie as tie
 

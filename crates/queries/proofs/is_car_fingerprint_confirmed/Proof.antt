@@ -1,6 +1,6 @@
 use Rattle.state.specs.View.{view}
 use Rattle.answers.specs.Query.{isCarFingerprintConfirmed, answerTo}
-use Rattle.queries.proofs.Laws.{by-query}
+use Rattle.definition.proofs.Asked.{by-query}
 use Rattle.queries.proofs.is_car_fingerprint_confirmed.Statement.{statement}
 use Rattle.queries.proofs.is_car_fingerprint_confirmed.Tie as tie
 

@@ -1,6 +1,6 @@
 use Rattle.state.specs.View.{view}
 use Rattle.answers.specs.Query.{isPhonePaired, answerTo}
-use Rattle.queries.proofs.Laws.{by-query}
+use Rattle.definition.proofs.Asked.{by-query}
 use Rattle.queries.proofs.is_phone_paired.Statement.{statement}
 use Rattle.queries.proofs.is_phone_paired.Tie as tie
 

@@ -1,6 +1,6 @@
 use Rattle.state.specs.View.{view}
 use Rattle.answers.specs.Query.{listPairedPhones, answerTo}
-use Rattle.queries.proofs.Laws.{by-query}
+use Rattle.definition.proofs.Asked.{by-query}
 use Rattle.queries.proofs.list_paired_phones.Statement.{statement}
 use Rattle.queries.proofs.list_paired_phones.Tie as tie
 

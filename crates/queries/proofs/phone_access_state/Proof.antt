@@ -1,7 +1,7 @@
 use Rattle.answers.specs.Answers.{phoneAccessAnswer}
 use Rattle.state.specs.View.{view}
 use Rattle.answers.specs.Query.{phoneAccessState, answerTo}
-use Rattle.queries.proofs.Laws.{by-query}
+use Rattle.definition.proofs.Asked.{by-query}
 use Rattle.queries.proofs.phone_access_state.Statement.{statement}
 use Rattle.queries.proofs.phone_access_state.Tie as tie
 

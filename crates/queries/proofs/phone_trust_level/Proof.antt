@@ -1,7 +1,7 @@
 use Rattle.answers.specs.Answers.{trustAnswer}
 use Rattle.state.specs.View.{view}
 use Rattle.answers.specs.Query.{phoneTrustLevel, answerTo}
-use Rattle.queries.proofs.Laws.{by-query}
+use Rattle.definition.proofs.Asked.{by-query}
 use Rattle.queries.proofs.phone_trust_level.Statement.{statement}
 use Rattle.queries.proofs.phone_trust_level.Tie as tie
 

@@ -1,7 +1,7 @@
 use Rattle.answers.specs.Answers.{ifInRange}
 use Rattle.state.specs.View.{view}
 use Rattle.answers.specs.Query.{sessionFor, answerTo}
-use Rattle.queries.proofs.Laws.{by-query}
+use Rattle.definition.proofs.Asked.{by-query}
 use Rattle.queries.proofs.session_for.Statement.{statement}
 use Rattle.queries.proofs.session_for.Tie as tie
 

@@ -1,7 +1,7 @@
 use Rattle.answers.specs.Answers.{methodsAnswer}
 use Rattle.state.specs.View.{view}
 use Rattle.answers.specs.Query.{validationMethods, answerTo}
-use Rattle.queries.proofs.Laws.{by-query}
+use Rattle.definition.proofs.Asked.{by-query}
 use Rattle.queries.proofs.validation_methods.Statement.{statement}
 use Rattle.queries.proofs.validation_methods.Tie as tie
 

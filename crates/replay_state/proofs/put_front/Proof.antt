@@ -14,4 +14,4 @@ put-front-spec =
     (λ c κs. tt)
     (λ c κs. tt)
     (λ c. search needs)
-    (λ c. rw (c .before .before .put-peer .ensures, c .before .before .before .before .before .before .before .put-pairings .ensures, c .before .before .before .before .before .before .before .before .before .before .before .put-policy .ensures, c .before .before .before .before .before .before .before .before .before .before .before .before .before .before .before .before .put-method-list .ensures, c .before .before .before .before .before .before .before .before .before .before .before .before .before .before .before .before .before .before .before .before .before .put-settings .ensures)))
+    (λ c. rw (c .before .before .put-peer .ensures, c .before .before .before .before .before .before .before .put-lists .ensures, c .before .before .before .before .before .before .before .before .before .before .before .before .before .put-policy .ensures, c .before .before .before .before .before .before .before .before .before .before .before .before .before .before .before .before .before .before .put-method-list .ensures, c .before .before .before .before .before .before .before .before .before .before .before .before .before .before .before .before .before .before .before .before .before .before .before .put-settings .ensures)))

@@ -36,7 +36,7 @@ add-car-spec =
     (λ c κs. tt)
     (λ c κs.
     let far : length (c .before .before .before .before .before .args .s .cars) ≡ 4 = search (needs, long-map) in
-    let k = dropped-count (c .before .before .before .before .before .args .s) (c .laid-from2 .result) (c .before .before .clamp-cars .result) 0 far (c .before .before .clamp-cars .ensures) (c .laid-from2 .ensures) in
+    let k = dropped-count (c .before .before .before .before .before .args .s) (c .canonical .result) (c .before .before .clamp-cars .result) 0 far (c .before .before .clamp-cars .ensures) (c .canonical .ensures) in
     omega arith)
     (λ c.
     let a = c .before .before .before .before .before .before .args in
@@ -45,5 +45,5 @@ add-car-spec =
     let short = used-length (a .p) wide in
     let one = append-one (idBytes (a .p)) (omega arith) in
     let n = c .before .before .before .clamp-cars in
-    c .put-last2 .ensures (carsOf (a .s)) (record { car = a .car; phones = idBytes (a .p) ∷ [] }) (c .before .laid-from2 .ensures) (rw (c .before .before .before .before .append .ensures, c .before .before .before .before .before .empty-list .ensures, one))
+    c .put-last2 .ensures (carsOf (a .s)) (record { car = a .car; phones = idBytes (a .p) ∷ [] }) (c .before .canonical .ensures) (rw (c .before .before .before .before .append .ensures, c .before .before .before .before .before .empty-list .ensures, one))
     ∙ rw (none-goes (a .s) (n .result) far (n .ensures) (c .before .before .if1 .left))))

@@ -22,7 +22,7 @@ put-phones-spec =
     let far : length (c .before .before .args .s .cars) ≡ 4 = search (needs, long-map) in
     let few = cars-few (c .before .before .args .s) far in
     let h = c .before .before .pre in
-    let all : length (c .before .laid-from .result .cars) ≡ 4 = search (needs, long-map) in
+    let all : length (c .before .canonical .result .cars) ≡ 4 = search (needs, long-map) in
     omega arith)
     (λ c.
     let far : length (c .before .before .before .before .args .s .cars) ≡ 4 = search (needs, long-map) in
@@ -33,6 +33,6 @@ put-phones-spec =
     let far : length (c .before .before .before .before .args .s .cars) ≡ 4 = search (needs, long-map) in
     let few = cars-few (c .before .before .before .before .args .s) far in
     let h = c .before .before .before .before .pre in
-    let all : length (c .before .before .before .laid-from .result .cars) ≡ 4 = search (needs, long-map) in
+    let all : length (c .before .before .before .canonical .result .cars) ≡ 4 = search (needs, long-map) in
     omega arith)
-    (λ c. λ ps e. phones-put ps (c .before .before .before .laid-from .result) (c .before .before .before .before .args .at) (c .before .before .before .before .args .phones) (carsOf (c .before .before .before .before .args .s)) (c .before .before .before .before .pre) (c .before .before .before .laid-from .ensures) e))
+    (λ c. λ ps e. phones-put ps (c .before .before .before .canonical .result) (c .before .before .before .before .args .at) (c .before .before .before .before .args .phones) (carsOf (c .before .before .before .before .args .s)) (c .before .before .before .before .pre) (c .before .before .before .canonical .ensures) e))

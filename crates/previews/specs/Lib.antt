@@ -1,0 +1,2 @@
+pub mod Foresees
+pub mod Tells
