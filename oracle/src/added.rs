@@ -287,7 +287,7 @@ fn confirm_fingerprint(fingerprint: &[u8]) -> Outcome {
 }
 
 /// A CAN id, if the number is in range.
-fn can_id(kind: IdKind, number: IdNumber) -> Option<Id> {
+pub(crate) fn can_id(kind: IdKind, number: IdNumber) -> Option<Id> {
     match kind {
         IdKind::Std => StandardId::new(u16::try_from(number.0).ok()?).map(Id::Standard),
         IdKind::Ext => ExtendedId::new(number.0).map(Id::Extended),

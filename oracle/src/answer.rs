@@ -39,6 +39,8 @@ pub enum Refusal {
     TooLarge = 23,
     BadFrame = 24,
     BadSettings = 25,
+    BadBus = 26,
+    QueueFull = 27,
     CarTwice = 28,
     ManyCars = 29,
     ShortOutput = 30,

@@ -1,7 +1,7 @@
 //! The calls of a script: one table for reading, writing and naming them.
 
 use crate::items::{
-    BadItems, Bytes, Class, IdKind, IdNumber, Item, Items, Method, ProbeFrame, Several,
+    BadItems, Bytes, Class, IdKind, IdNumber, Item, Items, Method, ProbeFrame, Several, UpTo,
 };
 use std::fmt;
 
@@ -106,6 +106,10 @@ calls! {
     Allow "allow_can_tx" {
         bus: u8, frame_bus: u8, kind: IdKind, id: IdNumber, dlc: u8, data: [u8; 8], class: Class, now: u64
     }
+    Send "send_can_frame" {
+        frame_bus: u8, kind: IdKind, id: IdNumber, dlc: u8, data: [u8; 8], class: Class
+    }
+    Serve "serve_can_frames" { turns: u32, now: u64 }
     Heard "heard_can_frame" { bus: u8, now: u64 }
     NotePlatform "note_platform_id" { number: u32 }
     NoteLogging "note_can_logging" { on: bool }
@@ -147,6 +151,11 @@ calls! {
 
     Convert "convert_phone_validations" { record: Bytes, target: bool, output: Bytes }
     SetCounters "set_counters" { next_session: u32, relocks: u32 }
+    SetList "set_list" { length: UpTo<17> }
+    SetRecord "set_record" {
+        place: UpTo<16>, frame_bus: u8, kind: IdKind, id: IdNumber, dlc: u8, data: [u8; 8], class: Class
+    }
+    LentList "lent_list" {}
     State "state" {}
 }
 

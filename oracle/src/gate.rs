@@ -9,6 +9,7 @@ use crate::items::MethodKind;
 use crate::marks::Marks;
 use crate::save::Save;
 use crate::shelf::Shelf;
+use crate::waiting::{Lent, Queue};
 use core_interface::ProbeWindow;
 use core_interface::oracle::{can_probe, validation};
 use std::future::Future;
@@ -28,6 +29,10 @@ pub struct Gate {
     pub shelf: Shelf,
     /// The save that is open, which W-209 gives the gate.
     pub save: Option<Save>,
+    /// How many frames wait and the bus served last, which W-204 gives the gate.
+    pub queue: Queue,
+    /// The records of the script's host, which no new gate changes.
+    pub lent: Lent,
     /// Without a shelf: the source keeps its one car, and records go through their version 1 form.
     pub(crate) bare: bool,
 }
@@ -69,6 +74,8 @@ impl Gate {
             tries: Settings::least().tries,
             shelf: Shelf::default(),
             save: None,
+            queue: Queue::default(),
+            lent: Lent::default(),
             bare: false,
         };
         gate.make_new(Settings::least());
@@ -187,6 +194,7 @@ impl Gate {
         self.tries = settings.tries;
         self.shelf = Shelf::default();
         self.save = None;
+        self.queue = Queue::default();
         self.settings = settings;
     }
 }

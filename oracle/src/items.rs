@@ -105,6 +105,21 @@ macro_rules! numbers {
 
 numbers! { u8 u32 u64 }
 
+/// A number that is at most `MOST`.
+#[derive(Clone, Copy, Debug, PartialEq, Eq)]
+pub struct UpTo<const MOST: u32>(pub u32);
+
+impl<const MOST: u32> Single for UpTo<MOST> {
+    fn parse(text: &str) -> Option<Self> {
+        let number = u32::parse(text)?;
+        (number <= MOST).then_some(Self(number))
+    }
+
+    fn show(&self) -> String {
+        self.0.to_string()
+    }
+}
+
 pub fn yes_no(yes: bool) -> &'static str {
     if yes { "yes" } else { "no" }
 }
@@ -219,11 +234,16 @@ impl Single for IdKind {
     }
 
     fn show(&self) -> String {
+        self.name().to_string()
+    }
+}
+
+impl IdKind {
+    pub fn name(self) -> &'static str {
         match self {
             Self::Std => "std",
             Self::Ext => "ext",
         }
-        .to_string()
     }
 }
 
@@ -353,12 +373,18 @@ impl Item for Class {
     }
 
     fn write(&self, key: &str, out: &mut String) {
+        put(out, key, self.name());
+        if let Self::Command(owner) = self {
+            put(out, "owner", &to_hex(owner));
+        }
+    }
+}
+
+impl Class {
+    pub fn name(&self) -> &'static str {
         match self {
-            Self::Platform => put(out, key, "platform"),
-            Self::Command(owner) => {
-                put(out, key, "command");
-                put(out, "owner", &to_hex(owner));
-            }
+            Self::Platform => "platform",
+            Self::Command(_) => "command",
         }
     }
 }

@@ -6,6 +6,7 @@ use crate::gate::Gate;
 use crate::host::Settings;
 use crate::previews_noted::PreviewsNoted;
 use crate::saves_noted::SavesNoted;
+use crate::waiting_noted::WaitingNoted;
 use crate::wrong::{self, Wrong};
 use std::io::{self, BufRead, Write};
 
@@ -16,7 +17,7 @@ pub struct Options {
     pub wrong: Option<Wrong>,
     /// Without a shelf: the source keeps its one car.
     pub bare: bool,
-    /// Behind each line what the call did to the cars of the store and to a save, or would do.
+    /// Behind each line what the call did to the cars of the store, to a save and to waiting frames, or would do.
     pub cars: bool,
 }
 
@@ -49,6 +50,7 @@ pub fn replay(script: impl BufRead, mut out: impl Write, options: &Options) -> R
     };
     let mut saves = SavesNoted::default();
     let mut previews = PreviewsNoted::default();
+    let mut waiting = WaitingNoted::default();
     let mut passes_over = false;
     let mut awaits: Option<(usize, &'static str)> = None;
     // A line ends with byte 10 alone, and the last one also with the script.
@@ -80,7 +82,8 @@ pub fn replay(script: impl BufRead, mut out: impl Write, options: &Options) -> R
                     let cars = noted(&call, &reply, &shelf, &gate.shelf);
                     let saves = saves.items(&call, &reply, save.as_ref(), &gate);
                     let previews = previews.items(&call, &mut gate);
-                    [cars, saves, previews].concat()
+                    let waiting = waiting.items(&call, &reply, &mut gate);
+                    [cars, saves, previews, waiting].concat()
                 })?;
                 if options.states {
                     print_state(&mut out, number, &gate, options)?;

@@ -174,6 +174,9 @@ impl Gate {
         if let Some(operation) = operation_of(call) {
             return self.preview(&operation).outcome();
         }
+        if let Some(outcome) = self.run_waiting(call) {
+            return outcome;
+        }
         match call {
             Call::Restore { record } if self.bare => restore_bare(&as_version_1(record)),
             Call::Restore { record } => self.restore(record),

@@ -25,7 +25,8 @@ pub fn show_statics() -> String {
 }
 
 impl Gate {
-    /// The state line; its marks are W-201's, its tries W-206's, its cars W-207's, its save W-209's.
+    /// The state line; its marks are W-201's, its tries W-206's, its cars W-207's, its save W-209's, its waiting
+    /// frames W-204's.
     pub fn show_state(&self) -> String {
         let parts = [
             self.show_settings(),
@@ -35,6 +36,7 @@ impl Gate {
             format!("tries_left={}", self.tries),
             show_probe(&self.marks.show()),
             self.show_save(),
+            self.show_queue(),
         ];
         parts.join(" ")
     }

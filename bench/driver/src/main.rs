@@ -73,6 +73,21 @@ fn calls(plan: Plan, work: &Work) {
         );
         line(&format!("allow a {name} frame"), &pair);
     }
+    for (name, command) in [("platform", false), ("command", true)] {
+        let sends = alternate(
+            plan,
+            &|n| proved::sends(work, command, n),
+            &|n| source::sends(work, command, n),
+        );
+        line(&format!("send a {name} frame"), &sends);
+        let both = alternate(
+            plan,
+            &|n| proved::serves(work, command, n),
+            &|n| source::serves(work, command, n),
+        );
+        line("send, then serve it", &both);
+        line("serve (the same without send)", &both.without(&sends));
+    }
     let pair = alternate(plan, &|n| proved::restores(work, n), &|n| source::restores(work, n));
     line("restore", &pair);
     let pair = alternate(plan, &|n| proved::encodes(work, n), &|n| source::encodes(work, n));

@@ -41,6 +41,28 @@ unsafe extern "C" {
         owner: *const u8,
         owner_len: usize,
     ) -> u32;
+    fn timed_sends(
+        n: u64,
+        car: *const [u8; 32],
+        record: *const u8,
+        record_len: usize,
+        method: *const u8,
+        method_len: usize,
+        command: bool,
+        owner: *const u8,
+        owner_len: usize,
+    ) -> u32;
+    fn timed_serves(
+        n: u64,
+        car: *const [u8; 32],
+        record: *const u8,
+        record_len: usize,
+        method: *const u8,
+        method_len: usize,
+        command: bool,
+        owner: *const u8,
+        owner_len: usize,
+    ) -> u32;
     fn timed_restores(
         n: u64,
         car: *const [u8; 32],
@@ -116,6 +138,38 @@ pub fn submits(work: &Work, typed: &[u8], n: u64) -> u32 {
 pub fn allows(work: &Work, command: bool, n: u64) -> u32 {
     unsafe {
         timed_allows(
+            n,
+            &work.car,
+            work.record.as_ptr(),
+            work.record.len(),
+            METHOD.as_ptr(),
+            METHOD.len(),
+            command,
+            work.phone.as_ptr(),
+            work.phone.len(),
+        )
+    }
+}
+
+pub fn sends(work: &Work, command: bool, n: u64) -> u32 {
+    unsafe {
+        timed_sends(
+            n,
+            &work.car,
+            work.record.as_ptr(),
+            work.record.len(),
+            METHOD.as_ptr(),
+            METHOD.len(),
+            command,
+            work.phone.as_ptr(),
+            work.phone.len(),
+        )
+    }
+}
+
+pub fn serves(work: &Work, command: bool, n: u64) -> u32 {
+    unsafe {
+        timed_serves(
             n,
             &work.car,
             work.record.as_ptr(),

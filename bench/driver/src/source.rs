@@ -10,7 +10,10 @@ use core_interface::{
     CanFrame, CanTxFrame, MAX_CODE_ATTEMPTS, ValidationError, ValidationKind, ValidationMethod,
 };
 use embedded_can::{Id, StandardId};
+use std::future::Future;
 use std::hint::black_box;
+use std::pin::pin;
+use std::task::{Context, Poll, Waker};
 
 static METHODS: [ValidationMethod; 1] = [ValidationMethod {
     id: METHOD,
@@ -136,24 +139,67 @@ pub fn submits(work: &Work, typed: &[u8], n: u64) -> u32 {
     })
 }
 
-pub fn allows(work: &Work, command: bool, n: u64) -> u32 {
-    ready(work);
+fn frame_of(work: &Work, command: bool) -> CanTxFrame {
     let frame = CanFrame {
         bus_id: BUS,
         id: Id::Standard(StandardId::new(FRAME_ID).expect("11 bits")),
         data: FRAME_DATA,
         dlc: 8,
     };
-    let sent = if command {
+    if command {
         CanTxFrame::command(&oracle::can_tx::authorization(&work.phone), frame)
     } else {
         CanTxFrame::platform(frame)
-    };
+    }
+}
+
+pub fn allows(work: &Work, command: bool, n: u64) -> u32 {
+    ready(work);
+    let sent = frame_of(work, command);
     (0..n).fold(0, |sum: u32, i| {
         embassy_time::set_clock_ms(i);
         let yes = core_interface::allow_can_tx(BUS, black_box(&sent));
         sum.wrapping_add(bit(yes, 1)).wrapping_add(raised(i))
     })
+}
+
+/// The channel of the bus has room, so that the future is ready at once.
+fn send(frame: CanTxFrame, i: u64) -> u32 {
+    let sending = pin!(core_interface::send_can_frame(black_box(frame)));
+    let done = sending.poll(&mut Context::from_waker(Waker::noop())) == Poll::Ready(true);
+    bit(done, 2).wrapping_add(raised(i))
+}
+
+fn received() -> CanTxFrame {
+    let channel = &core_interface::CAN_TX_CHANNELS[usize::from(BUS)];
+    channel.try_receive().expect("one was sent")
+}
+
+/// Each frame is taken out of its channel again, and is the next that is sent.
+pub fn sends(work: &Work, command: bool, n: u64) -> u32 {
+    ready(work);
+    let mut frame = frame_of(work, command);
+    let mut sum: u32 = 0;
+    for i in 0..n {
+        sum = sum.wrapping_add(send(frame, i));
+        frame = received();
+    }
+    sum
+}
+
+/// As a driver does: it takes the frame out of its bus's channel and asks. The 3 are a run's answer and its one turn.
+pub fn serves(work: &Work, command: bool, n: u64) -> u32 {
+    ready(work);
+    let mut frame = frame_of(work, command);
+    let mut sum: u32 = 0;
+    for i in 0..n {
+        embassy_time::set_clock_ms(i);
+        sum = sum.wrapping_add(send(frame, i));
+        frame = received();
+        let yes = core_interface::allow_can_tx(BUS, black_box(&frame));
+        sum = sum.wrapping_add(3 + bit(yes, 1)).wrapping_add(raised(i));
+    }
+    sum
 }
 
 pub fn restores(work: &Work, n: u64) -> u32 {

@@ -7,6 +7,7 @@ use Rattle.phones.specs.Ids.{afterwards}
 use Rattle.saved_record.specs.SavedRecord.{CarIds}
 use Rattle.state.specs.declared.Answer.{Answer}
 use Rattle.state.specs.declared.Answer.the-variants.{Done, Count, Number, Reason, BadSettings}
+use Rattle.state.specs.declared.Report.{Report}
 use Rattle.state.specs.Answers.{Numbered, numbered}
 use Rattle.state.specs.View.{Lists, View, Listing, listsStay}
 use Rattle.range.specs.Range.{inRange}
@@ -54,6 +55,7 @@ pub data Reply (L S : Type 0) : Type 0 where
   challenge : ChallengeAnswer → Reply L S
   saved : RecordAnswer → Reply L S
   preview : Answer → (paired : L) (store : S) (bytes : ℕ) → Reply L S
+  report : Answer → Report → Reply L S
 
 -- by their ids
 abbrev pub ReplyByIds : Type 0
@@ -72,6 +74,7 @@ numberedReply (methods a) = numbered (a .answer)
 numberedReply (challenge a) = numbered (a .answer)
 numberedReply (saved a) = numbered (a .answer)
 numberedReply (preview a paired store bytes) = numbered a
+numberedReply (report a r) = numbered a
 
 -- 02, W-203: what an operation would answer, the lists that it would leave, and how many bytes their record would need
 unfoldable pub foreseen : Lists → Listing → ReplyByIds

@@ -19,7 +19,8 @@ use Rattle.state.specs.declared.Method.{Method}
 use Rattle.state.specs.declared.Settings.{Settings}
 use Rattle.state.specs.declared.Gate.{Gate}
 use Rattle.state.specs.Parts.{withPolicy}
-use Rattle.new_gate.specs.New.{newGate}
+use Rattle.waiting_list.specs.declared.Waiting.{Waiting}
+use Rattle.new_gate.specs.New.{newGate, newQueue}
 use Rattle.definition.specs.Gate.{step, onLists, restorePhoneValidations}
 
 abbrev pub classOf : Bool → TxClass
@@ -50,9 +51,18 @@ opened g digest = record {
   core = withPolicy (g .core) (writable digest);
   phones = record { paired = listOf (phonesFor digest (carsOf (g .phones .store))); store = g .phones .store };
   save = g .save;
+  queue = g .queue;
   code = g .code;
 }
 
 unfoldable pub ready : List ℕ → List ℕ → List ℕ → Gate
 ready digest bytes method =
     opened (step (newGate settings (replicate 8 (methodOf (madeId method))) 1 .gate) (onLists (restorePhoneValidations bytes)) .gate) digest
+
+-- a list in which no frame waits
+abbrev pub list : List Waiting
+list = replicate 16 (record { frame = frame; class = Platform; owner = record { bytes = replicate 32 0; len = 0 } })
+
+-- the gate with no frame waiting
+abbrev pub emptied : Gate → Gate
+emptied g = record { core = g .core; phones = g .phones; save = g .save; queue = newQueue; code = g .code }

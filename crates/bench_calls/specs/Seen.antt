@@ -1,12 +1,14 @@
 -- What a round looks at in what a call gives, as one number.
-use mathlib.Core.Bool.{Bool, cond}
+use mathlib.Core.Bool.{Bool, false, cond}
 use Prim.Native.Nat.{ℕ, _+_, _%_, _^_}
 use lib.ListN.{getD}
 use Rattle.saved_record.specs.declared.SavedRecord.{SavedRecord}
+use Rattle.waiting_list.specs.Queue.{blank}
 use Rattle.state.specs.declared.Challenge.{Challenge}
+use Rattle.state.specs.declared.Report.{Report}
 use Rattle.state.specs.declared.Signals.{Signals}
 use Rattle.state.specs.declared.Answer.{Answer}
-use Rattle.state.specs.declared.Answer.the-variants.{Done, Yes, No, Nothing, Count, Number, Reason, Session, Taken, UnknownMethod, CarNotIdentified, CoolingDown, OtherPhoneSession, MethodUnavailable, MethodNotAvailableNow, NoRandomSource, NoSession, NotCodeEntry, WrongCode, NoDevLock, NotNeeded, Logging, BusAsleep, Busy, NoAttemptsLeft, Invalid, IdTooLong, RandomSpent, NotText, ListFull, Malformed, TooLarge, BadFrame, BadSettings, CarTwice, NoSave}
+use Rattle.state.specs.declared.Answer.the-variants.{Done, Yes, No, Nothing, Count, Number, Reason, Session, Taken, UnknownMethod, CarNotIdentified, CoolingDown, OtherPhoneSession, MethodUnavailable, MethodNotAvailableNow, NoRandomSource, NoSession, NotCodeEntry, WrongCode, NoDevLock, NotNeeded, Logging, BusAsleep, Busy, NoAttemptsLeft, Invalid, IdTooLong, RandomSpent, NotText, ListFull, Malformed, TooLarge, BadFrame, BadSettings, BadBus, QueueFull, CarTwice, NoSave}
 
 -- a sum of 32 bits, which wraps
 abbrev pub add : ℕ → ℕ → ℕ
@@ -30,6 +32,10 @@ flags s =
 
 abbrev pub raised : Signals → ℕ → ℕ
 raised s i = add (flags s) (add (recordByte (s .validations .stored) i) (digit (s .challenge .challenge) i))
+
+-- how many turns a run took, and whether its first frame passes
+abbrev pub reportSeen : Report → ℕ
+reportSeen r = add (r .turns % 2 ^ 32) (bit (getD (r .frames) 0 (record { frame = blank .frame; allowed = false }) .allowed) 1)
 
 abbrev pub answerSeen : Answer → ℕ
 answerSeen Done = 2
@@ -66,5 +72,7 @@ answerSeen Malformed = 0
 answerSeen TooLarge = 0
 answerSeen BadFrame = 0
 answerSeen BadSettings = 0
+answerSeen BadBus = 0
+answerSeen QueueFull = 0
 answerSeen CarTwice = 0
 answerSeen NoSave = 0

@@ -2,6 +2,7 @@
 use frames::CanFrame;
 use frames::Id;
 use frames::TxClass;
+use phones::ShortId;
 use state::Access;
 use state::Buses;
 use state::Car;
@@ -11,7 +12,9 @@ use state::Kind;
 use state::Method;
 use state::Phones;
 use state::Policy;
+use state::Queue;
 use state::Settings;
+use waiting_list::Waiting;
 ghost use mathlib.Core.Path.{_≡_};
 ghost use Rattle.bench_calls.specs.Held.{classOf, writable, opened};
 ghost use Rattle.bench_calls.specs.Held as Held;
@@ -86,11 +89,13 @@ fn open(g: Gate, digest: [u8; 32]) -> Gate
     let paired = phones::canonical(validated);
     let phones = Phones { paired, store };
     let save = g.save;
+    let queue = g.queue;
     let code = g.code;
     Gate {
         core,
         phones,
         save,
+        queue,
         code,
     }
 }
@@ -120,4 +125,29 @@ pub fn ready(digest: [u8; 32], bytes: &[u8], method: &[u8]) -> Gate
     let o = gate_phones::restore_phone_validations(g, bytes);
     let h = o.gate;
     open(h, digest)
+}
+
+// A list in which no frame waits.
+pub fn list() -> [Waiting; 16]
+    ensures { λ r. ⌜ r ≡ Held.list ⌝ }
+{
+    let frame = frame();
+    let bytes = [0u8; 32];
+    let owner = ShortId { bytes, len: 0 };
+    let one = Waiting {
+        frame,
+        class: TxClass::Platform,
+        owner,
+    };
+    [one; 16]
+}
+
+// The gate with no frame waiting, as a new gate has none.
+pub fn emptied(g: Gate) -> Gate
+    ensures { λ r. ⌜ r ≡ Held.emptied g ⌝ }
+{
+    let queue = Queue { count: 0, last: 3 };
+    let mut next = g;
+    next.queue = queue;
+    next
 }

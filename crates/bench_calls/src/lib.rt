@@ -11,7 +11,7 @@ ghost use mathlib.Core.Path.{_≡_};
 ghost use Rattle.car_digest.specs.CarDigest.{carDigest};
 ghost use Rattle.bench_calls.specs.Held.{ready, frame, classOf};
 ghost use Rattle.bench_calls.specs.Rounds as Rounds;
-ghost use Rattle.bench_calls.specs.Rounds.{tried, sumOf};
+ghost use Rattle.bench_calls.specs.Rounds.{tried, sumOf, sumLent};
 
 // The digest of a car, written to `out`; zeros and no above 4,096 bytes.
 #[no_mangle]
@@ -113,6 +113,75 @@ pub extern "C" fn timed_allows(
         let o = gate_frames::allow_can_tx(g, frame.bus, frame, class, owner, i);
         sum = seen::after(sum, o, i);
         let next = o.gate;
+        g = next;
+        i += 1;
+    }
+    sum
+}
+
+// `n` frames sent, each where none waits.
+#[no_mangle]
+pub extern "C" fn timed_sends(
+    n: u64,
+    car: &[u8; 32],
+    bytes: &[u8],
+    method: &[u8],
+    command: bool,
+    owner: &[u8],
+) -> u32
+    ensures { λ r. ⌜ r ≡ sumLent (Rounds.sentFirst frame (classOf command) (now (owner .entry))) (ready (now (car .entry)) (now (bytes .entry)) (now (method .entry))) n ⌝ }
+{
+    let digest = *car;
+    let mut g = held::ready(digest, bytes, method);
+    let mut all = held::list();
+    let mut sum = 0;
+    let frame = held::frame();
+    let class = held::class_of(command);
+    let mut i = 0;
+    while i < n {
+        let s = gate_queue::send_sixteen(g, all, frame, class, owner);
+        let o = s.outcome;
+        sum = seen::after(sum, o, i);
+        let left = s.all;
+        all = left;
+        let next = o.gate;
+        g = held::emptied(next);
+        i += 1;
+    }
+    sum
+}
+
+// `n` frames, each sent and then served.
+#[no_mangle]
+pub extern "C" fn timed_serves(
+    n: u64,
+    car: &[u8; 32],
+    bytes: &[u8],
+    method: &[u8],
+    command: bool,
+    owner: &[u8],
+) -> u32
+    ensures { λ r. ⌜ r ≡ sumLent (Rounds.passed frame (classOf command) (now (owner .entry))) (ready (now (car .entry)) (now (bytes .entry)) (now (method .entry))) n ⌝ }
+{
+    let digest = *car;
+    let mut g = held::ready(digest, bytes, method);
+    let mut all = held::list();
+    let mut sum = 0;
+    let frame = held::frame();
+    let class = held::class_of(command);
+    let mut i = 0;
+    while i < n {
+        let s = gate_queue::send_sixteen(g, all, frame, class, owner);
+        let o = s.outcome;
+        sum = seen::after(sum, o, i);
+        let waiting = s.all;
+        let sent = o.gate;
+        let d = gate_queue::serve_sixteen(sent, waiting, 1, i);
+        let ran = d.ran;
+        sum = seen::after_run(sum, ran, i);
+        let left = d.all;
+        all = left;
+        let next = ran.outcome.gate;
         g = next;
         i += 1;
     }

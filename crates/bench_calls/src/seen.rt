@@ -3,9 +3,13 @@ use saved_record::SavedRecord;
 use state::Answer;
 use state::Challenge;
 use state::Outcome;
+use state::Ran;
+use state::Report;
 use state::Signals;
 ghost use mathlib.Core.Path.{_≡_};
-ghost use Rattle.definition.specs.Gate.{given};
+ghost use Prim.Native.Nat.{_%_, _^_};
+ghost use mathlib.Core.List.{[]};
+ghost use Rattle.definition.specs.Gate.{given, ranGiven};
 ghost use Rattle.bench_calls.specs.Seen as Seen;
 ghost use Rattle.bench_calls.specs.Seen.{recordByte};
 ghost use Rattle.bench_calls.specs.Rounds as Rounds;
@@ -20,6 +24,12 @@ fn wide(x: u8) -> u32
     ensures { λ r. ⌜ r ≡ x ⌝ }
 {
     x as u32
+}
+
+fn narrow(x: usize) -> u32
+    ensures { λ r. ⌜ r ≡ x % 2 ^ 32 ⌝ }
+{
+    (x % 4_294_967_296) as u32
 }
 
 // The weight, or 0.
@@ -103,6 +113,8 @@ fn answer_seen(a: Answer) -> u32
         Answer::TooLarge => 0,
         Answer::BadFrame => 0,
         Answer::BadSettings => 0,
+        Answer::BadBus => 0,
+        Answer::QueueFull => 0,
         Answer::CarTwice => 0,
         Answer::NoSave => 0,
     }
@@ -115,5 +127,27 @@ pub fn after(sum: u32, o: Outcome, i: u64) -> u32
     let answer = o.answer;
     let signals = o.signals;
     let more = add(answer_seen(answer), raised(signals, i));
+    add(sum, more)
+}
+
+// How many turns a run took, and whether its first frame passes.
+fn report_seen(r: Report) -> u32
+    ensures { λ b. ⌜ b ≡ Seen.reportSeen r ⌝ }
+{
+    let frames = r.frames;
+    let first = frames[0];
+    add(narrow(r.turns), bit(first.allowed, 1))
+}
+
+// The sum after a run.
+pub fn after_run(sum: u32, r: Ran, i: u64) -> u32
+    ensures { λ s. ⌜ s ≡ Rounds.after sum (ranGiven r []) i .sum ⌝ }
+{
+    let o = r.outcome;
+    let report = r.report;
+    let answer = o.answer;
+    let signals = o.signals;
+    let told = add(answer_seen(answer), report_seen(report));
+    let more = add(told, raised(signals, i));
     add(sum, more)
 }

@@ -1,1 +1,2 @@
 pub mod Tx
+pub mod Verdict

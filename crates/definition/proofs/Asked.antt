@@ -3,7 +3,7 @@ use mathlib.Core.Path.{_≡_, refl}
 use Rattle.state.specs.declared.Gate.{Gate}
 use Rattle.state.specs.Replies.{nothingRaised, noSignals}
 use Rattle.state.specs.View.{view}
-use Rattle.answers.specs.Query.{Query, ReplyByIds, plain, approval, access, phones, trust, peer, phoneAccess, methods, challenge, saved, preview, numberedReply, answerTo}
+use Rattle.answers.specs.Query.{Query, ReplyByIds, plain, approval, access, phones, trust, peer, phoneAccess, methods, challenge, saved, preview, report, numberedReply, answerTo}
 use Rattle.definition.specs.Gate.{PackedReply, ask, laidReply, left, says, gives, step, answered}
 
 -- lists in an answer do not change the answer's number and values
@@ -19,6 +19,7 @@ numbered-laid (methods a) = refl
 numbered-laid (challenge a) = refl
 numbered-laid (saved a) = refl
 numbered-laid (preview a paired store n) = refl
+numbered-laid (report a r) = refl
 
 pub by-query : (g : Gate) (q : Query) (r : PackedReply) → r ≡ laidReply (answerTo (view g) q) → answered g r ≡ step g (ask q)
 unfolding step gives says left view noSignals nothingRaised

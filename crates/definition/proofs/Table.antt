@@ -1,7 +1,9 @@
 -- P1 to P13 of document 01 and the cases of W-207: the rows of specs/Cases.antt, proved as one theorem. They hold by computation alone.
-use mathlib.Core.Path.{refl}
-use mathlib.Core.List.{List, _++_, map-append}
+use mathlib.Core.Path.{_≡_, refl}
+use mathlib.Core.Bool.{Bool, true, false}
+use mathlib.Core.List.{List, [], _∷_, _++_, map, map-append}
 use Prim.Native.Nat.{ℕ}
+use lib.ListN.{replicate}
 use Rattle.arrays.specs.Arrays.{padded, sameBytes}
 use Rattle.phones.specs.Ids.{someOf, allOf, kept, joined, contains, removeAll, roomFor, pushed}
 use Rattle.phones.specs.Phones.{idBytes, idInRange, idOf, idsIn, listInRange, listOf, phonesOf, tooLong}
@@ -15,6 +17,10 @@ use Rattle.saved_record.specs.Store.{carOf, laidCar, emptyCar, carsOf, storeOf}
 use Rattle.decimal.specs.Decimal.{digitsUpTo, decimalOf}
 use Rattle.hex.specs.Hex.{digit, hexOf}
 use Rattle.listing.specs.Listing.{line, phoneLines, carLines, eachCar, acceptedLines, refusedLines, linesOf, lines}
+use Rattle.state.specs.declared.Status.{Status}
+use Rattle.state.specs.declared.Status.the-variants.{InProgress, Failed}
+use Rattle.state.specs.declared.Gate.{Gate}
+use Rattle.state.specs.Parts.{withValidation, withProbe}
 use Rattle.state.specs.Running as Running
 use Rattle.state.specs.Checks as Checks
 use Rattle.state.specs.View as View
@@ -27,6 +33,7 @@ use Rattle.car_identity.specs.CarIdentity as CarIdentity
 use Rattle.validations.specs.Store as Store
 use Rattle.save.specs.Save as Save
 use Rattle.probe_window.specs.Window as Window
+use Rattle.probe_window.specs.Window.{isOpen, noFrame}
 use Rattle.can_probe.specs.Calls as Probe
 use Rattle.can_tx.specs.Tx as Tx
 use Rattle.session_times.specs.Times as Times
@@ -34,9 +41,11 @@ use Rattle.session.specs.Session as Session
 use Rattle.validation.specs.Calls as Validation
 use Rattle.answers.specs.Answers as Answers
 use Rattle.answers.specs.Query as Query
+use Rattle.answers.specs.Query.{isCanBusListenOnly}
 use Rattle.new_gate.specs.New as New
 use Rattle.definition.specs.Gate as Gate
-use Rattle.definition.specs.Cases.{Row, Holds, Table, p1-p4, p5, p6, p7, p8-p9, p10-p11, p12-p13, w207}
+use Rattle.definition.specs.Gate.{ask, after}
+use Rattle.definition.specs.Cases.{Row, Observed, truth, nine, answerAfter, platform, knownCar, phone, start, wrong, heard, entry, openProbe, sendEntry, Holds, Table, p1-p4, p5, p6, p7, p8-p9, p10-p11, p12-p13, w207}
 
 -- ---- what the cases compute through
 
@@ -73,7 +82,7 @@ unfolding Range.methodsFit Running.cleanMethod Running.methodAt Running.inProgre
 openState2 = tt
 
 unfoldable openState3 : Unit {0}
-unfolding Range.sessionFits Range.windowFits Range.coreFits Range.saveFits Range.inRange Save.noSave Replies.noSignals Replies.nothingRaised Replies.phoneAccessChanged
+unfolding Range.sessionFits Range.windowFits Range.coreFits Range.saveFits Range.queueFits Range.inRange Save.noSave Replies.noSignals Replies.nothingRaised Replies.phoneAccessChanged
 openState3 = tt
 
 unfoldable openState4 : Unit {0}
@@ -162,17 +171,102 @@ p6-holds : Holds p6
 unfolding openAll
 p6-holds = refl
 
-p7-holds : Holds p7
+-- the gate of P7 in its session, which began at 1,000: each call is computed once, from the gate as the one before it left it
+abbrev inSession : Status → ℕ → ℕ → ℕ → List ℕ → Gate
+inSession status ended cooldown tries code = record {
+  core =
+      withValidation (knownCar .core)
+      (record {
+        session = record { present = true; number = 1; phone = idOf phone; method = 0; car = replicate 32 0x11; deadline = 61_000; status = status; ended = ended };
+        «cooldown_until» = cooldown;
+        next = 2;
+        tries = tries;
+      });
+  phones = knownCar .phones;
+  save = knownCar .save;
+  queue = knownCar .queue;
+  code = code;
+}
+
+abbrev inProgressWith : ℕ → Gate
+inProgressWith tries = inSession InProgress 0 0 tries (nine "1234")
+
+abbrev failed : Gate
+failed = inSession Failed 5_000 35_000 3 (replicate 9 0)
+
+begun : after knownCar (start 1_000) ≡ inProgressWith 3
 unfolding openAll
-p7-holds = refl
+begun = refl
+
+oneWrong : after (inProgressWith 3) (wrong 3_000) ≡ inProgressWith 2
+unfolding openAll
+oneWrong = refl
+
+twoWrong : after (inProgressWith 2) (wrong 4_000) ≡ inProgressWith 1
+unfolding openAll
+twoWrong = refl
+
+threeWrong : after (inProgressWith 1) (wrong 5_000) ≡ failed
+unfolding openAll
+threeWrong = refl
+
+-- the rows of P7, on those gates
+p7-there : (answerAfter (inProgressWith 1) [] (wrong 5_000) ∷ answerAfter failed [] (start 34_999) ∷ answerAfter failed [] (start 35_000) ∷ []) ≡ map (λ (r : Row). r .wanted) p7
+unfolding openAll
+p7-there = refl
+
+p7-holds : Holds p7
+unfolding Holds
+p7-holds = rw (begun, oneWrong, twoWrong, threeWrong, p7-there)
 
 p8-p9-holds : Holds p8-p9
 unfolding openAll
 p8-p9-holds = refl
 
-p10-p11-holds : Holds p10-p11
+-- the gate of P10 and P11 with its window: which of the two entries were sent
+abbrev inWindow : Bool → Bool → Gate
+inWindow first second = record {
+  core =
+      withProbe (platform .core)
+      (record {
+        window = record { present = true; bus = 0; frames = padded 4 noFrame (entry ∷ entry ∷ []); count = 2; opened = 100; relocks = 0; sent = first ∷ second ∷ false ∷ false ∷ [] };
+        attempts = 1;
+        relocks = 0;
+        heard = true ∷ false ∷ false ∷ false ∷ [];
+        marks = 100 ∷ 0 ∷ 0 ∷ 0 ∷ [];
+      });
+  phones = platform .phones;
+  save = platform .save;
+  queue = platform .queue;
+  code = platform .code;
+}
+
+windowOpens : after (after platform (heard 100)) (openProbe 100) ≡ inWindow false false
 unfolding openAll
-p10-p11-holds = refl
+windowOpens = refl
+
+onePasses : after (inWindow false false) (sendEntry 200) ≡ inWindow true false
+unfolding openAll
+onePasses = refl
+
+bothPass : after (inWindow true false) (sendEntry 200) ≡ inWindow true true
+unfolding openAll
+bothPass = refl
+
+-- what P10 looks at
+abbrev looksAt : Gate → ℕ → List Observed
+looksAt g clock =
+    truth (isOpen (g .core .policy) (g .core .probe) 0 clock) ∷ answerAfter g [] (sendEntry clock) ∷ answerAfter g [] (ask (isCanBusListenOnly 0 clock)) ∷ []
+
+p10-there : looksAt (inWindow false false) 6_099 ++ looksAt (inWindow false false) 50 ++ looksAt (inWindow false false) 6_100
+    ++ (answerAfter (inWindow false false) [] (sendEntry 200) ∷ answerAfter (inWindow true false) [] (sendEntry 200) ∷ answerAfter (inWindow true true) [] (sendEntry 200) ∷ [])
+    ≡ map (λ (r : Row). r .wanted) p10-p11
+unfolding openAll
+p10-there = refl
+
+p10-p11-holds : Holds p10-p11
+unfolding Holds
+p10-p11-holds = rw (windowOpens, onePasses, bothPass, p10-there)
 
 p12-p13-holds : (byte : ℕ) → Holds (p12-p13 byte)
 unfolding openAll

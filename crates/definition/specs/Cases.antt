@@ -102,6 +102,7 @@ knownCar = record {
   core = withPolicy (new .core) (withIdentity (new .core .policy) (record { platform = 0; confirmed = true; car = record { known = true; digest = replicate 32 0x11 } }));
   phones = new .phones;
   save = new .save;
+  queue = new .queue;
   code = new .code;
 }
 

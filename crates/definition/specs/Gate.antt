@@ -1,4 +1,4 @@
--- The gate: every call of document 01, what each says, and the one definition of what it gives, `step`.
+-- The gate: what each call says, and the one definition of what it gives, `step`.
 use mathlib.Core.Path.{_≡_}
 use mathlib.Core.Bool.{Bool, true, false, cond}
 use mathlib.Core.List.{List, [], _∷_}
@@ -8,27 +8,25 @@ use lib.ListN.{length}
 use Rattle.phones.specs.declared.PhoneList.{PhoneList}
 use Rattle.phones.specs.Ids.{Left, stays, becomes, afterwards}
 use Rattle.phones.specs.Phones.{idBytes, listOf}
-use Rattle.frames.specs.declared.CanFrame.{CanFrame}
-use Rattle.frames.specs.declared.ProbeFrame.{ProbeFrame}
-use Rattle.frames.specs.declared.TxClass.{TxClass}
 use Rattle.draw.specs.Draw.{drawn}
 use Rattle.text.specs.Text.{isText, right}
 use Rattle.saved_record.specs.declared.Store.{Store}
 use Rattle.saved_record.specs.SavedRecord.{CarIds}
 use Rattle.saved_record.specs.Store.{storeOf}
-use Rattle.state.specs.declared.Car.{Car}
 use Rattle.state.specs.declared.Method.{Method}
 use Rattle.state.specs.declared.Settings.{Settings}
 use Rattle.state.specs.declared.Session.{Session}
 use Rattle.state.specs.declared.Core.{Core}
 use Rattle.state.specs.declared.Gate.{Gate}
-use Rattle.state.specs.declared.Answer.the-variants.{BadSettings}
+use Rattle.state.specs.declared.Answer.the-variants.{Done, BadSettings}
 use Rattle.state.specs.declared.Raised.{Raised}
 use Rattle.state.specs.declared.Signals.{Signals}
 use Rattle.state.specs.declared.Said.{Said}
 use Rattle.state.specs.declared.Ended.{Ended}
 use Rattle.state.specs.declared.Outcome.{Outcome}
+use Rattle.state.specs.declared.Ran.{Ran}
 use Rattle.state.specs.declared.Save.{Save}
+use Rattle.state.specs.declared.Queue.{Queue}
 use Rattle.state.specs.Answers.{Numbered, numbered}
 use Rattle.state.specs.Replies.{noS, sentS, nothingRaised, sending, noSignals, noCode, codeAt, showing}
 use Rattle.state.specs.View.{Lists, View, Listing, view, laidPhones}
@@ -39,6 +37,9 @@ use Rattle.car_identity.specs.CarIdentity as CarIdentity
 use Rattle.can.specs.Can as Can
 use Rattle.pairing.specs.Pairing as Pairing
 use Rattle.save.specs.Save.{Saving, noSave, opening, taking}
+use Rattle.waiting_list.specs.declared.Waiting.{Waiting}
+use Rattle.can_queue.specs.Calls as CanQueue
+use Rattle.can_queue.specs.Calls.{Sending, Serving, serving, reportOf}
 use Rattle.validations.specs.Store as Validations
 use Rattle.validations.specs.Store.{recordFor, isFull, validating}
 use Rattle.phone_trust.specs.Trust.{isValidated}
@@ -48,57 +49,24 @@ use Rattle.validation.specs.Calls as Validation
 use Rattle.validation.specs.Calls.{unvalidated}
 use Rattle.methods.specs.Notes as Methods
 use Rattle.answers.specs.Query as Query
-use Rattle.answers.specs.Query.{Query, Reply, ReplyByIds, plain, numberedReply, answerTo}
-use Rattle.new_gate.specs.New.{madeCore}
+use Rattle.answers.specs.Query.{Reply, ReplyByIds, plain, numberedReply, answerTo}
+use Rattle.new_gate.specs.New.{madeCore, newQueue}
+-- ---- the calls
 
--- ---- the calls. Those of a session, those on the lists, those on the save and those on the core alone are told apart by type. Start and submit stand
--- alone, since demand 3 lets the random bytes and the typed code differ between its two runs
-
-pub data SessionCall : Type 0 where
-  cancelValidation : (phone : List ℕ) (clock : ℕ) → SessionCall
-  completeValidationAction : (session clock : ℕ) → SessionCall
-  tickValidation : (clock : ℕ) → SessionCall
-
-pub data ListCall : Type 0 where
-  addPairedPhone removePairedPhone : (id : List ℕ) → ListCall
-  clearPairedPhones : ListCall
-  forgetPhoneValidation : (id : List ℕ) → ListCall
-  prunePhoneValidations : ListCall
-  restorePhoneValidations : (bytes : List ℕ) → ListCall
-
--- `out` is memory that the call is lent: what it holds before
-pub data SaveCall : Type 0 where
-  openPhoneValidationsSave : SaveCall
-  takePhoneValidationsSave : (out : List ℕ) → SaveCall
-
-pub data CoreCall : Type 0 where
-  setBlePeer : (id : List ℕ) → CoreCall
-  approveCanReadWrite revokeCanReadWriteApproval : CoreCall
-  restoreCanReadWriteApproval : (approval : Car) → CoreCall
-  setCanDevWriteUnlocked : (unlocked : Bool) → CoreCall
-  declareProductionBuild confirmCarIdentity revokeCarIdentity : CoreCall
-  confirmCarFingerprint : (fingerprint : List ℕ) → CoreCall
-  setCanReadOnly : (enabled : Bool) → CoreCall
-  openIdentityProbe : (bus : ℕ) (frames : List ProbeFrame) (count clock : ℕ) → CoreCall
-  closeIdentityProbe : CoreCall
-  allowCanTx : (bus : ℕ) (frame : CanFrame) (class : TxClass) (owner : List ℕ) (clock : ℕ) → CoreCall
-  heardCanFrame : (bus clock : ℕ) → CoreCall
-  notePlatformId : (number : ℕ) → CoreCall
-  noteCanLogging : (on : Bool) → CoreCall
-  noteCanFdBus : (bus : ℕ) (on : Bool) → CoreCall
-  noteMethodAvailable noteMethodCanContinue : (place : ℕ) (on : Bool) → CoreCall
-
-pub data Call : Type 0 where
-  newGateCall : (settings : Settings) (methods : List Method) (count : ℕ) → Call
-  startValidation : (phone method : List ℕ) (clock : ℕ) (random : List ℕ) → Call
-  submitValidationCode : (phone typed : List ℕ) (clock : ℕ) → Call
-  onSession : SessionCall → Call
-  onLists : ListCall → Call
-  onSave : SaveCall → Call
-  onCore : CoreCall → Call
-  ask : Query → Call
+pub use Rattle.definition.specs.Calls.{SessionCall, cancelValidation, completeValidationAction, tickValidation, ListCall, addPairedPhone, removePairedPhone, clearPairedPhones, forgetPhoneValidation, prunePhoneValidations, restorePhoneValidations, SaveCall, openPhoneValidationsSave, takePhoneValidationsSave, QueueCall, sendCanFrame, serveCanFrames, CoreCall, setBlePeer, approveCanReadWrite, revokeCanReadWriteApproval, restoreCanReadWriteApproval, setCanDevWriteUnlocked, declareProductionBuild, confirmCarIdentity, revokeCarIdentity, confirmCarFingerprint, setCanReadOnly, openIdentityProbe, closeIdentityProbe, allowCanTx, heardCanFrame, notePlatformId, noteCanLogging, noteCanFdBus, noteMethodAvailable, noteMethodCanContinue, Call, newGateCall, startValidation, submitValidationCode, onSession, onLists, onSave, onQueue, onCore, ask, Lent, nothing, bytes, records, lentTo, lentToSave, lentToQueue}
 
 -- ---- what a call says
+
+-- what becomes of lent memory, of what becomes of the bytes or records in it
+abbrev pub lentAs : {A : Type 0} → (A → Lent) → Left A → Left Lent
+lentAs f stays = stays
+lentAs f (becomes x) = becomes (f x)
+
+-- as a call leaves it: where none was lent, there is none
+abbrev pub lentAfter : Lent → Left Lent → Lent
+lentAfter nothing x = nothing
+lentAfter (bytes b) x = afterwards (bytes b) x
+lentAfter (records l) x = afterwards (records l) x
 
 -- its answer, with lists by their ids; what it sends, and whether S too; what becomes of each part of the gate, and of the memory that it was
 -- lent
@@ -110,8 +78,9 @@ pub record Says : Type 0 where
   pub paired : Left (List (List ℕ))
   pub store : Left (List CarIds)
   pub save : Save
+  pub queue : Queue
   pub code : List ℕ
-  pub lent : Left (List ℕ)
+  pub lent : Left Lent
 
 -- an operation is not given the digits: it marks where there are none, where the gate's stay, and where those drawn by this call go
 unfoldable pub saying : View → List ℕ → Said → Bool → Left (List CarIds) → Says
@@ -123,6 +92,7 @@ saying v drawn o stores store = record {
   paired = stays;
   store = store;
   save = v .save;
+  queue = v .queue;
   code = codeAt (v .code) drawn (o .code);
   lent = stays;
 }
@@ -149,6 +119,7 @@ ofLists v x = record {
   paired = x .paired;
   store = x .store;
   save = v .save;
+  queue = v .queue;
   code = v .code;
   lent = stays;
 }
@@ -163,8 +134,39 @@ ofSave v x = record {
   paired = stays;
   store = stays;
   save = x .save;
+  queue = v .queue;
   code = v .code;
-  lent = x .lent;
+  lent = lentAs bytes (x .lent);
+}
+
+-- sending a frame leaves everything but the count and the lent list
+abbrev pub ofSending : View → Sending → Says
+ofSending v x = record {
+  answer = plain (x .answer);
+  raised = nothingRaised;
+  stores = false;
+  core = v .core;
+  paired = stays;
+  store = stays;
+  save = v .save;
+  queue = x .queue;
+  code = v .code;
+  lent = lentAs records (x .lent);
+}
+
+-- a run leaves in the core what allow leaves there
+abbrev pub ofServing : View → Serving → Says
+ofServing v x = record {
+  answer = Query.report Done (reportOf (x .decided));
+  raised = nothingRaised;
+  stores = false;
+  core = x .core;
+  paired = stays;
+  store = stays;
+  save = v .save;
+  queue = x .queue;
+  code = v .code;
+  lent = becomes (records (x .list));
 }
 
 -- a query changes nothing and raises nothing
@@ -177,6 +179,7 @@ asked v r = record {
   paired = stays;
   store = stays;
   save = v .save;
+  queue = v .queue;
   code = v .code;
   lent = stays;
 }
@@ -200,11 +203,19 @@ listing l bonded (removePairedPhone id) = Pairing.unpair l id
 listing l bonded clearPairedPhones = Pairing.clear l
 listing l bonded (forgetPhoneValidation id) = Validations.forget l id
 listing l bonded prunePhoneValidations = Validations.prune l
-listing l bonded (restorePhoneValidations bytes) = Validations.restore bytes
+listing l bonded (restorePhoneValidations saved) = Validations.restore saved
 
 unfoldable pub saving : List CarIds → Save → SaveCall → Saving
 saving cs s openPhoneValidationsSave = opening cs
 saving cs s (takePhoneValidationsSave out) = taking s out
+
+-- 25 of a run reports no turn
+unfoldable pub queueing : View → QueueCall → Says
+queueing v (sendCanFrame list frame class owner) = served v (ofSending v (CanQueue.sending (v .queue) list frame class owner))
+queueing v (serveCanFrames list turns clock) =
+    cond (inRange v)
+    (ofServing v (serving (v .core) (v .lists) (v .queue) list turns clock))
+    (asked v (Query.report BadSettings (reportOf [])))
 
 unfoldable pub said : Core → Lists → CoreCall → Said
 said c l (setBlePeer id) = Pairing.setPeer c id
@@ -247,6 +258,7 @@ says v (newGateCall settings methods count) =
       paired = becomes [];
       store = becomes [];
       save = noSave;
+      queue = newQueue;
       code = noCode;
       lent = stays;
     }
@@ -259,34 +271,11 @@ says v (submitValidationCode phone typed clock) =
 says v (onSession k) = served v (ofSession v (ended (v .core) (fullFor v) k))
 says v (onLists k) = served v (ofLists v (listing (v .lists) (v .core .settings .bonded) k))
 says v (onSave k) = served v (ofSave v (saving (v .lists .store) (v .save) k))
+says v (onQueue k) = queueing v k
 says v (onCore k) = served v (ofCore v noCode (said (v .core) (v .lists) k))
 says v (ask q) = asked v (answerTo v q)
 
 -- ---- the one definition
-
--- memory that a call is lent
-pub data Lent : Type 0 where
-  nothing : Lent
-  bytes : List ℕ → Lent
-
-abbrev pub lentToSave : SaveCall → Lent
-lentToSave openPhoneValidationsSave = nothing
-lentToSave (takePhoneValidationsSave out) = bytes out
-
-abbrev pub lentTo : Call → Lent
-lentTo (newGateCall settings methods count) = nothing
-lentTo (startValidation phone method clock random) = nothing
-lentTo (submitValidationCode phone typed clock) = nothing
-lentTo (onSession k) = nothing
-lentTo (onLists k) = nothing
-lentTo (onSave k) = lentToSave k
-lentTo (onCore k) = nothing
-lentTo (ask q) = nothing
-
--- as a call leaves it
-abbrev pub lentAfter : Lent → Left (List ℕ) → Lent
-lentAfter nothing x = nothing
-lentAfter (bytes b) x = bytes (afterwards b x)
 
 -- what a call gives: the answer by document 01's number and values, and as it is returned; signals, lent memory, gate. G is a gate, L a
 -- list and S a store, as they lie in memory
@@ -317,6 +306,7 @@ replied f h (Query.methods a) = Query.methods a
 replied f h (Query.challenge a) = Query.challenge a
 replied f h (Query.saved a) = Query.saved a
 replied f h (Query.preview a paired store n) = Query.preview a (f paired) (h store) n
+replied f h (Query.report a r) = Query.report a r
 
 -- S, where it is sent, is the record of the store that is left
 unfoldable pub gives : {G L S : Type 0} → Form G L S → G → Lent → Says → GivenIn G L S
@@ -335,7 +325,7 @@ stepIn f g k = gives f g (lentTo k) (says (f .view g) k)
 
 -- the gate that a call leaves
 unfoldable pub left : Gate → Says → Gate
-left g s = record { core = s .core; phones = laidPhones (g .phones) (s .paired) (s .store); save = s .save; code = s .code }
+left g s = record { core = s .core; phones = laidPhones (g .phones) (s .paired) (s .store); save = s .save; queue = s .queue; code = s .code }
 
 abbrev pub packed : Form Gate PhoneList Store
 packed = record { view = view; left = left; lay = listOf; layStore = storeOf }
@@ -373,6 +363,19 @@ given o = givenWith o nothing
 -- of a call that is lent memory, with what it leaves there
 abbrev pub lentGiven : Outcome → List ℕ → Given
 lentGiven o out = givenWith o (bytes out)
+
+abbrev pub lentRecords : Outcome → List Waiting → Given
+lentRecords o list = givenWith o (records list)
+
+-- a run returns its report too
+abbrev pub ranGiven : Ran → List Waiting → Given
+ranGiven r list = record {
+  numbered = numbered (r .outcome .answer);
+  answer = Query.report (r .outcome .answer) (r .report);
+  signals = r .outcome .signals;
+  lent = records list;
+  gate = r .outcome .gate;
+}
 
 -- a query returns its answer alone
 abbrev pub answered : Gate → PackedReply → Given

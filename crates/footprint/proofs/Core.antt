@@ -43,13 +43,17 @@ unfolding Tx.allowPlatform Tx.throughWindow
 keeps-class c bus frame validated clock Platform = search (keeping, keeps-passed)
 keeps-class c bus frame validated clock Command = search keeping
 
+pub allow-keeps : (c : Core) (bus : ℕ) (frame : CanFrame) (class : TxClass) (validated : Bool) (clock : ℕ) → Keeps (inCore probe ∷ []) c (Tx.allow c bus frame class validated clock)
+unfolding Tx.allow
+allow-keeps c bus frame class validated clock = search (keeping, keeps-class)
+
 keeps-locked : (c : Core) (enabled : Bool) → Keeps (inCore policy ∷ inCore probe ∷ []) c (Can.setReadOnly c enabled)
 unfolding Can.setReadOnly Changes.policyChanged someOf
 keeps-locked c true = search keeping
 keeps-locked c false = search keeping
 
 pub core-keeps : (c : Core) (l : Lists) (k : CoreCall) → Keeps (map inCore (coreTouches k)) c (said c l k)
-unfolding said someOf notified Pairing.setPeer Access.approve Access.revokeApproval Access.restoreApproval DevLock.setDevUnlocked DevLock.declareProduction CarIdentity.confirmPlatform CarIdentity.revokePlatform CarIdentity.confirmFingerprint CarIdentity.notePlatform Can.noteLogging Can.noteFdBus Changes.policyChanged Probe.openProbe Probe.closeProbe Probe.windowChanged Tx.allow Probe.heard Methods.noteAvailable Methods.noteContinue
+unfolding said someOf notified Pairing.setPeer Access.approve Access.revokeApproval Access.restoreApproval DevLock.setDevUnlocked DevLock.declareProduction CarIdentity.confirmPlatform CarIdentity.revokePlatform CarIdentity.confirmFingerprint CarIdentity.notePlatform Can.noteLogging Can.noteFdBus Changes.policyChanged Probe.openProbe Probe.closeProbe Probe.windowChanged Probe.heard Methods.noteAvailable Methods.noteContinue
 core-keeps c l (Gate.setBlePeer id) = search keeping
 core-keeps c l Gate.approveCanReadWrite = search keeping
 core-keeps c l Gate.revokeCanReadWriteApproval = search keeping
@@ -62,7 +66,7 @@ core-keeps c l (Gate.confirmCarFingerprint fingerprint) = search keeping
 core-keeps c l (Gate.setCanReadOnly enabled) = search keeps-locked
 core-keeps c l (Gate.openIdentityProbe bus frames count clock) = search keeping
 core-keeps c l Gate.closeIdentityProbe = search keeping
-core-keeps c l (Gate.allowCanTx bus frame class owner clock) = search (keeping, keeps-class)
+core-keeps c l (Gate.allowCanTx bus frame class owner clock) = search allow-keeps
 core-keeps c l (Gate.heardCanFrame bus clock) = search keeping
 core-keeps c l (Gate.notePlatformId number) = search keeping
 core-keeps c l (Gate.noteCanLogging on) = search keeping
@@ -72,17 +76,17 @@ core-keeps c l (Gate.noteMethodCanContinue place on) = search keeping
 
 -- ---- what none of them touches
 
-past-six : (p : CorePart) → 7 ≤ place (inCore p)
-past-six notes = omega arith
-past-six policy = omega arith
-past-six peer = omega arith
-past-six probe = omega arith
+past-seven : (p : CorePart) → 8 ≤ place (inCore p)
+past-seven notes = omega arith
+past-seven policy = omega arith
+past-seven peer = omega arith
+past-seven probe = omega arith
 
 -- a part that is none of a core's own is in none of their rows
-outside : (p : Part) → place p ≤ 6 → (qs : List CorePart) → isIn p (map inCore qs) ≡ false
+outside : (p : Part) → place p ≤ 7 → (qs : List CorePart) → isIn p (map inCore qs) ≡ false
 unfolding someOf
 outside p h [] = refl
-outside p h (q ∷ qs) = let far = past-six q in rw (ne-eqb (place (inCore q)) (place p) (omega arith)) (outside p h qs)
+outside p h (q ∷ qs) = let far = past-seven q in rw (ne-eqb (place (inCore q)) (place p) (omega arith)) (outside p h qs)
 
 pub record Beside (c : Core) (o : Said) : Type 0 where
   pub settings : o .core .settings ≡ c .settings

@@ -7,7 +7,7 @@ use mathlib.Core.List.{List, [], _∷_, map}
 use lib.Dec.{eqb}
 use Rattle.phones.specs.Ids.{someOf}
 use Rattle.state.specs.declared.Gate.{Gate}
-use Rattle.definition.specs.Gate.{SessionCall, cancelValidation, completeValidationAction, tickValidation, ListCall, addPairedPhone, removePairedPhone, clearPairedPhones, forgetPhoneValidation, prunePhoneValidations, restorePhoneValidations, SaveCall, openPhoneValidationsSave, takePhoneValidationsSave, CoreCall, setBlePeer, approveCanReadWrite, revokeCanReadWriteApproval, restoreCanReadWriteApproval, setCanDevWriteUnlocked, declareProductionBuild, confirmCarIdentity, revokeCarIdentity, confirmCarFingerprint, setCanReadOnly, openIdentityProbe, closeIdentityProbe, allowCanTx, heardCanFrame, notePlatformId, noteCanLogging, noteCanFdBus, noteMethodAvailable, noteMethodCanContinue, Call, newGateCall, startValidation, submitValidationCode, onSession, onLists, onSave, onCore, ask, after}
+use Rattle.definition.specs.Gate.{SessionCall, cancelValidation, completeValidationAction, tickValidation, ListCall, addPairedPhone, removePairedPhone, clearPairedPhones, forgetPhoneValidation, prunePhoneValidations, restorePhoneValidations, SaveCall, openPhoneValidationsSave, takePhoneValidationsSave, QueueCall, sendCanFrame, serveCanFrames, CoreCall, setBlePeer, approveCanReadWrite, revokeCanReadWriteApproval, restoreCanReadWriteApproval, setCanDevWriteUnlocked, declareProductionBuild, confirmCarIdentity, revokeCarIdentity, confirmCarFingerprint, setCanReadOnly, openIdentityProbe, closeIdentityProbe, allowCanTx, heardCanFrame, notePlatformId, noteCanLogging, noteCanFdBus, noteMethodAvailable, noteMethodCanContinue, Call, newGateCall, startValidation, submitValidationCode, onSession, onLists, onSave, onQueue, onCore, ask, after}
 
 -- ---- the parts
 
@@ -15,9 +15,9 @@ use Rattle.definition.specs.Gate.{SessionCall, cancelValidation, completeValida
 pub data CorePart : Type 0 where
   notes policy peer probe : CorePart
 
--- both lists and the save as they lie in memory, past their counts and its length too
+-- both lists and the save as they lie in memory, past their counts and its length too; of the waiting frames what the gate keeps
 pub data Part : Type 0 where
-  settings methods validation paired store save code : Part
+  settings methods validation paired store save queue code : Part
   inCore : CorePart → Part
 
 -- ---- the table
@@ -38,6 +38,10 @@ listTouches (restorePhoneValidations bytes) = store ∷ []
 abbrev pub saveTouches : SaveCall → List Part
 saveTouches openPhoneValidationsSave = save ∷ []
 saveTouches (takePhoneValidationsSave out) = save ∷ []
+
+abbrev pub queueTouches : QueueCall → List Part
+queueTouches (sendCanFrame list frame class owner) = queue ∷ []
+queueTouches (serveCanFrames list turns clock) = queue ∷ inCore probe ∷ []
 
 abbrev pub coreTouches : CoreCall → List CorePart
 coreTouches (setBlePeer id) = peer ∷ []
@@ -62,12 +66,13 @@ coreTouches (noteMethodCanContinue place on) = notes ∷ []
 
 abbrev pub touches : Call → List Part
 touches (newGateCall settings′ methods′ count) =
-    settings ∷ methods ∷ validation ∷ paired ∷ store ∷ save ∷ code ∷ inCore notes ∷ inCore policy ∷ inCore peer ∷ inCore probe ∷ []
+    settings ∷ methods ∷ validation ∷ paired ∷ store ∷ save ∷ queue ∷ code ∷ inCore notes ∷ inCore policy ∷ inCore peer ∷ inCore probe ∷ []
 touches (startValidation phone method clock random) = validation ∷ code ∷ []
 touches (submitValidationCode phone typed clock) = validation ∷ store ∷ code ∷ []
 touches (onSession k) = sessionTouches k
 touches (onLists k) = listTouches k
 touches (onSave k) = saveTouches k
+touches (onQueue k) = queueTouches k
 touches (onCore k) = map inCore (coreTouches k)
 touches (ask q) = []
 
@@ -81,11 +86,12 @@ place validation = 2
 place paired = 3
 place store = 4
 place save = 5
-place code = 6
-place (inCore notes) = 7
-place (inCore policy) = 8
-place (inCore peer) = 9
-place (inCore probe) = 10
+place queue = 6
+place code = 7
+place (inCore notes) = 8
+place (inCore policy) = 9
+place (inCore peer) = 10
+place (inCore probe) = 11
 
 abbrev pub isIn : Part → List Part → Bool
 isIn p ps = someOf (λ (q : Part). eqb (place q) (place p)) ps
@@ -98,6 +104,7 @@ Same validation g h = g .core .validation ≡ h .core .validation
 Same paired g h = g .phones .paired ≡ h .phones .paired
 Same store g h = g .phones .store ≡ h .phones .store
 Same save g h = g .save ≡ h .save
+Same queue g h = g .queue ≡ h .queue
 Same code g h = g .code ≡ h .code
 Same (inCore notes) g h = (g .core .methods .available ≡ h .core .methods .available) × (g .core .methods .continues ≡ h .core .methods .continues)
 Same (inCore policy) g h = g .core .policy ≡ h .core .policy

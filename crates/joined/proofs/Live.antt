@@ -98,7 +98,7 @@ pub record Examples : Type 0 where
 
 -- what they compute through
 unfoldable computed : Unit {0}
-unfolding padded sameBytes contains idBytes idInRange idOf idsIn joined listInRange listOf phonesOf pushed roomFor someOf tooLong digits drawLimit drawn firstBelow group decode encode encodeAll Utf8.within isText right trim trimFront trimmed white allOf anyLong before field fields overLimits readFields carPart carParts encoded ofCar readCounted readAfter readCar readOn readCars readTwo readVersion nothingAfter hasCar twice over judged decoded carOf laidCar emptyCar carsOf storeOf Range.within Range.settingsFit Range.printable Range.methodFits Range.allFit Range.methodsIn Range.methodsFit Running.methodAt Running.cleanMethod Running.inProgress Running.codeInProgress Range.triesFit Range.sessionFits Range.windowFits Range.coreFits Range.saveFits Range.inRange view carInRange storeInRange listsStay Replies.leave Replies.reply Replies.finish Policy.fingerprintConfirmed Policy.isIdentified Store.recordFor Store.phonesFor Store.restore Store.isFull Store.carHas Store.validating Pairing.pair Pairing.clear Save.noSave Save.opening Save.rest Save.taking Times.saturatingAdd Session.endedAs Session.isOf Session.lostReadWrite Session.noteAt Session.cannotGoOn Session.lapseOf Session.placeFrom Session.placeOf Times.nextNumber checked Validation.endSession Validation.runsFor Validation.startChecks Validation.newSession Validation.begin Validation.startAt Validation.start Validation.refilled Validation.succeededCore Validation.succeed Validation.rightCode Validation.judge Validation.submitted Validation.submit Query.answerTo Answers.recordAnswer New.newMethods New.newCore New.madeCore New.newGate Gate.saying Gate.served Gate.listing Gate.saving Gate.says Gate.left Gate.gives step isDigit isSeparator beginsDigit isDropped ungroupedFrom ungrouped
+unfolding padded sameBytes contains idBytes idInRange idOf idsIn joined listInRange listOf phonesOf pushed roomFor someOf tooLong digits drawLimit drawn firstBelow group decode encode encodeAll Utf8.within isText right trim trimFront trimmed white allOf anyLong before field fields overLimits readFields carPart carParts encoded ofCar readCounted readAfter readCar readOn readCars readTwo readVersion nothingAfter hasCar twice over judged decoded carOf laidCar emptyCar carsOf storeOf Range.within Range.settingsFit Range.printable Range.methodFits Range.allFit Range.methodsIn Range.methodsFit Running.methodAt Running.cleanMethod Running.inProgress Running.codeInProgress Range.triesFit Range.sessionFits Range.windowFits Range.coreFits Range.saveFits Range.queueFits Range.inRange view carInRange storeInRange listsStay Replies.leave Replies.reply Replies.finish Policy.fingerprintConfirmed Policy.isIdentified Store.recordFor Store.phonesFor Store.restore Store.isFull Store.carHas Store.validating Pairing.pair Pairing.clear Save.noSave Save.opening Save.rest Save.taking Times.saturatingAdd Session.endedAs Session.isOf Session.lostReadWrite Session.noteAt Session.cannotGoOn Session.lapseOf Session.placeFrom Session.placeOf Times.nextNumber checked Validation.endSession Validation.runsFor Validation.startChecks Validation.newSession Validation.begin Validation.startAt Validation.start Validation.refilled Validation.succeededCore Validation.succeed Validation.rightCode Validation.judge Validation.submitted Validation.submit Query.answerTo Answers.recordAnswer New.newMethods New.newCore New.madeCore New.newGate Gate.saying Gate.served Gate.listing Gate.saving Gate.says Gate.left Gate.gives step isDigit isSeparator beginsDigit isDropped ungroupedFrom ungrouped
 computed = tt
 
 -- `recordOf` is opened here and not below, where a record is compared whole

@@ -9,19 +9,22 @@ use lib.Dec.{eqb}
 use lib.ListN.{length, take, drop, length-drop, take-append-drop, drop-of-length-le}
 use lib.Seq.{length-take-le, drop-drop, take-at}
 use Rattle.arrays.specs.Arrays.{put}
-use Rattle.phones.specs.Ids.{becomes}
+use Rattle.phones.specs.Ids.{Left, stays, becomes}
 use Rattle.state.specs.declared.Gate.{Gate}
 use Rattle.state.specs.declared.Save.{Save}
 use Rattle.state.specs.declared.Answer.{Answer}
 use Rattle.state.specs.declared.Answer.the-variants.{Taken, NoSave, BadSettings}
-use Rattle.state.specs.Answers.{values}
+use Rattle.state.specs.Answers.{Values, values}
 use Rattle.state.specs.Checks.{checked}
 use Rattle.state.specs.View.{view}
 use Rattle.range.specs.Range.{inRange}
 use Rattle.save.specs.Save.{Saving, noSave, rest, behind, refused, taking}
 use Rattle.save.proofs.Laws.{take-none}
+use Rattle.answers.specs.Query.{numberedReply}
+use Rattle.waiting_list.specs.declared.Waiting.{Waiting}
+use Rattle.can_queue.specs.Calls.{sending}
 use Rattle.definition.specs.Gate as Gate
-use Rattle.definition.specs.Gate.{Call, Says, saying, ofSave, served, saving, says, Given, bytes, left, gives, packed, step, after}
+use Rattle.definition.specs.Gate.{Call, Says, saying, ofSave, served, saving, queueing, says, Given, bytes, records, lentAs, lentAfter, left, gives, packed, step, after}
 use Rattle.footprint.proofs.Keeps.{either}
 use Rattle.stays_in_range.specs.Stays.{InRange}
 use Rattle.joined.specs.Joined.{isOpen, bytesLeft, goesOn, Handed, nothingHanded, ofAnswer, ofCall, hands, takeInto, Takes, Refuses}
@@ -147,8 +150,16 @@ served-keeps : (g : Gate) (s : Says) → s .save ≡ g .save → served (view g)
 unfolding served view
 served-keeps g s e = either (λ (x : Says). x .save ≡ g .save) (inRange (view g)) s _ e refl
 
+-- a call that is lent records hands out no bytes
+abbrev HandsNone : List Waiting → Says → Type 0
+HandsNone ws s = ofCall (lentAfter (records ws) (s .lent)) (numberedReply (s .answer) .values) ≡ nothingHanded
+
+none-handed : (ws : List Waiting) (x : Left (List Waiting)) (v : Values) → ofCall (lentAfter (records ws) (lentAs records x)) v ≡ nothingHanded
+none-handed ws stays v = refl
+none-handed ws (becomes l) v = refl
+
 pub turn : (g : Gate) (k : Call) → goesOn k ≡ true → Turn g k
-unfolding step gives left says saying view
+unfolding step gives left says served queueing saying view
 turn g (Gate.newGateCall settings methods count) h = absurd (false≢true h)
 turn g (Gate.startValidation phone method clock random) h = still g _ refl (served-keeps g _ refl)
 turn g (Gate.submitValidationCode phone typed clock) h = still g _ refl (served-keeps g _ refl)
@@ -156,5 +167,10 @@ turn g (Gate.onSession k) h = still g _ refl (served-keeps g _ refl)
 turn g (Gate.onLists k) h = still g _ refl (served-keeps g _ refl)
 turn g (Gate.onSave Gate.openPhoneValidationsSave) h = absurd (false≢true h)
 turn g (Gate.onSave (Gate.takePhoneValidationsSave out)) h = turn-take g out
+turn g (Gate.onQueue (Gate.sendCanFrame list frame class owner)) h =
+    let x = sending (g .queue) list frame class owner in
+    still g _ (either (HandsNone list) (inRange (view g)) _ _ (none-handed list (x .lent) (values (x .answer))) refl) (served-keeps g _ refl)
+turn g (Gate.onQueue (Gate.serveCanFrames list turns clock)) h =
+    still g _ (either (HandsNone list) (inRange (view g)) _ _ refl refl) (either (λ (s : Says). s .save ≡ g .save) (inRange (view g)) _ _ refl refl)
 turn g (Gate.onCore k) h = still g _ refl (served-keeps g _ refl)
 turn g (Gate.ask q) h = still g _ refl refl

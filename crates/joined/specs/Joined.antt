@@ -13,7 +13,7 @@ use Rattle.state.specs.Answers as Answers
 use Rattle.state.specs.Answers.{Values}
 use Rattle.save.specs.Save.{rest}
 use Rattle.answers.specs.Query.{plain}
-use Rattle.definition.specs.Gate.{SaveCall, openPhoneValidationsSave, takePhoneValidationsSave, Call, newGateCall, startValidation, submitValidationCode, onSession, onLists, onSave, onCore, ask, Lent, nothing, bytes, step, after, afterAll}
+use Rattle.definition.specs.Gate.{SaveCall, openPhoneValidationsSave, takePhoneValidationsSave, Call, newGateCall, startValidation, submitValidationCode, onSession, onLists, onSave, onQueue, onCore, ask, Lent, nothing, bytes, records, step, after, afterAll}
 use Rattle.stays_in_range.specs.Stays.{InRange, AllSized, SizedGate}
 use Rattle.round_trip.specs.Trip.{Saves, used}
 
@@ -43,6 +43,7 @@ goesOn (submitValidationCode phone typed clock) = true
 goesOn (onSession k) = true
 goesOn (onLists k) = true
 goesOn (onSave k) = isTake k
+goesOn (onQueue k) = true
 goesOn (onCore k) = true
 goesOn (ask q) = true
 
@@ -76,6 +77,7 @@ ofAnswer b (Answers.taken n end) = record { bytes = take n b; end = end }
 abbrev pub ofCall : Lent → Values → Handed
 ofCall nothing v = nothingHanded
 ofCall (bytes b) v = ofAnswer b v
+ofCall (records ws) v = nothingHanded
 
 abbrev pub hands : Gate → Call → Handed
 hands g k = ofCall (step g k .lent) (step g k .numbered .values)

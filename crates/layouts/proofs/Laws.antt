@@ -27,6 +27,7 @@ after v s = record {
   pairedFits = fitsAfter idsFit (v .pairedFits) (s .paired);
   storeFits = fitsAfter carsFit (v .storeFits) (s .store);
   save = s .save;
+  queue = s .queue;
   code = s .code;
 }
 
@@ -63,6 +64,7 @@ module _ {G L S : Type 0} (f : Form G L S) (ids : L → List (List ℕ)) (cars :
   read-back (Query.challenge a) = refl
   read-back (Query.saved a) = refl
   read-back (Query.preview a paired store n) = rw (law .reads paired, law .readsStore store)
+  read-back (Query.report a r) = refl
 
   tells-is : (g : G) (memory : Lent) (s : Says) → told f ids cars (gives f g memory s) ≡ tells (f .view g) memory s
   unfolding gives

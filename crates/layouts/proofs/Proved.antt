@@ -36,6 +36,7 @@ packed-leaves g s = λ i. record {
   pairedFits = packed-range (g .phones .paired) (s .paired) i;
   storeFits = store-left-range (g .phones .store) (s .store) i;
   save = s .save;
+  queue = s .queue;
   code = s .code;
 }
 
@@ -47,6 +48,7 @@ wide-leaves g s = λ i. record {
   pairedFits = wide-range wideOf wideInRange idsFit wide-fits (g .paired) (s .paired) i;
   storeFits = wide-range wideStoreOf wideStoreInRange carsFit wide-store-range (g .store) (s .store) i;
   save = s .save;
+  queue = s .queue;
   code = s .code;
 }
 
@@ -60,7 +62,7 @@ wide-law = record { reads = wide-reads; readsStore = wide-store-reads; leaves = 
 
 both-fit : (v : View) → inRange v ≡ true → (v .pairedFits ≡ true) × (v .storeFits ≡ true)
 unfolding inRange
-both-fit v h = let p = simp and-eq-true-iff at h in (p .0 .0 .1, p .0 .1)
+both-fit v h = let p = simp and-eq-true-iff at h in (p .0 .0 .0 .1, p .0 .0 .1)
 
 packs : (w : WideGate) → inRange (wideView w) ≡ true → (g : Gate) × Sized (g .phones .paired) × SizedStore (g .phones .store) × (view g ≡ wideView w)
 unfolding view wideView
@@ -70,7 +72,7 @@ packs w h =
     let cars = wideCars (w .store) in
     let idsIn = wide-range-fits (w .paired) (r .0) in
     let carsIn = wide-store-fits (w .store) (r .1) in (
-      record { core = w .core; phones = record { paired = listOf ids; store = storeOf cars }; save = w .save; code = w .code },
+      record { core = w .core; phones = record { paired = listOf ids; store = storeOf cars }; save = w .save; queue = w .queue; code = w .code },
       packed-sized ids idsIn,
       store-sized cars carsIn,
       λ i. record {
@@ -79,6 +81,7 @@ packs w h =
         pairedFits = (fits-of-list ids ∙ idsIn ∙ sym (r .0)) i;
         storeFits = (store-range cars ∙ cars-fit cars carsIn ∙ sym (r .1)) i;
         save = w .save;
+        queue = w .queue;
         code = w .code;
       },
     )
@@ -91,7 +94,7 @@ unpacks g h =
     let cars = carsOf (g .phones .store) in
     let idsIn = range-fits (g .phones .paired) (r .0) in
     let carsIn = store-fits (g .phones .store) (r .1) in (
-      record { core = g .core; paired = wideOf ids; store = wideStoreOf cars; save = g .save; code = g .code },
+      record { core = g .core; paired = wideOf ids; store = wideStoreOf cars; save = g .save; queue = g .queue; code = g .code },
       wide-sized ids idsIn,
       wide-store-sized cars carsIn,
       λ i. record {
@@ -100,6 +103,7 @@ unpacks g h =
         pairedFits = (wide-fits ids ∙ idsIn ∙ sym (r .0)) i;
         storeFits = (wide-store-range cars ∙ cars-fit cars carsIn ∙ sym (r .1)) i;
         save = g .save;
+        queue = g .queue;
         code = g .code;
       },
     )

@@ -12,6 +12,7 @@ use Rattle.phones.specs.Phones.{idBytes, idOf, tooLong}
 use Rattle.saved_record.specs.SavedRecord.{CarIds, twice}
 use Rattle.state.specs.declared.Core.{Core}
 use Rattle.state.specs.declared.Save.{Save}
+use Rattle.state.specs.declared.Queue.{Queue}
 use Rattle.state.specs.View.{View}
 use Rattle.definition.specs.Gate.{Says, Form}
 
@@ -70,6 +71,7 @@ pub record WideGate : Type 0 where
   pub paired : WideList
   pub store : WideStore
   pub save : Save
+  pub queue : Queue
   pub code : List ℕ
 
 unfoldable pub wideView : WideGate → View
@@ -79,6 +81,7 @@ wideView g = record {
   pairedFits = wideInRange (g .paired);
   storeFits = wideStoreInRange (g .store);
   save = g .save;
+  queue = g .queue;
   code = g .code;
 }
 
@@ -88,6 +91,7 @@ wideLeft g s = record {
   paired = wideLaid wideOf (g .paired) (s .paired);
   store = wideLaid wideStoreOf (g .store) (s .store);
   save = s .save;
+  queue = s .queue;
   code = s .code;
 }
 

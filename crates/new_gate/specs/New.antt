@@ -10,6 +10,7 @@ use Rattle.state.specs.declared.Status.the-variants.{InProgress}
 use Rattle.state.specs.declared.Method.{Method}
 use Rattle.state.specs.declared.Methods.{Methods}
 use Rattle.state.specs.declared.Settings.{Settings}
+use Rattle.state.specs.declared.Queue.{Queue}
 use Rattle.state.specs.declared.Session.{Session}
 use Rattle.state.specs.declared.Policy.{Policy}
 use Rattle.state.specs.declared.Probe.{Probe}
@@ -23,6 +24,10 @@ use Rattle.state.specs.Replies.{noCar, noSignals, noCode}
 use Rattle.saved_record.specs.Store.{storeOf}
 use Rattle.save.specs.Save.{noSave}
 use Rattle.probe_window.specs.Window.{noWindow}
+
+-- none waits, and "A new gate's first turn looks from bus 0": the last served is 3 (W-204)
+abbrev pub newQueue : Queue
+newQueue = record { count = 0; last = 3 }
 
 abbrev pub noSession : Session
 noSession = record { present = false; number = 0; phone = idOf []; method = 0; car = replicate 32 0; deadline = 0; status = InProgress; ended = 0 }
@@ -71,7 +76,7 @@ abbrev pub madeGate : Made → Outcome
 madeGate m = record {
   answer = m .answer;
   signals = noSignals;
-  gate = record { core = m .core; phones = record { paired = listOf []; store = storeOf [] }; save = noSave; code = noCode };
+  gate = record { core = m .core; phones = record { paired = listOf []; store = storeOf [] }; save = noSave; queue = newQueue; code = noCode };
 }
 
 unfoldable pub newGate : Settings → List Method → ℕ → Outcome

@@ -12,6 +12,7 @@ use state::Outcome;
 use state::Phones;
 use state::Policy;
 use state::Probe;
+use state::Queue;
 use state::Session;
 use state::Settings;
 use state::Status;
@@ -153,10 +154,12 @@ fn made_gate(answer: Answer, core: Core) -> Outcome
     let phones = Phones { paired, store };
     let code = [0u8; 9];
     let save = save::no_save();
+    let queue = Queue { count: 0, last: 3 };
     let gate = Gate {
         core,
         phones,
         save,
+        queue,
         code,
     };
     Outcome {

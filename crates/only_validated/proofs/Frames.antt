@@ -62,7 +62,7 @@ apart g h =
     cases (λ (b : Bool). b ≡ true → twice (carsOf s) ≡ false) (ltb 4 (s .count)) false _
     (λ e. untrue)
     (λ e k. not-true _ (and-eq-true-iff (allOf carInRange (take (s .count) (s .cars))) _ .0 k .1))
-    ((simp and-eq-true-iff at h) .0 .1)
+    ((simp and-eq-true-iff at h) .0 .0 .1)
 
 -- ---- a command
 

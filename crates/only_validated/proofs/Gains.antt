@@ -34,7 +34,7 @@ use Rattle.validations.proofs.Laid.{store-after}
 use Rattle.session.specs.declared.Lapse.{Lapse}
 use Rattle.session.specs.Session.{endedAs, isOf, cannotGoOn, lapseOf}
 use Rattle.validation.specs.Calls as Validation
-use Rattle.definition.specs.Gate.{SessionCall, ListCall, Call, Says, saying, validates, served, ended, listing, says, left, gives, step, after}
+use Rattle.definition.specs.Gate.{SessionCall, ListCall, Call, Says, saying, validates, served, queueing, ended, listing, says, left, gives, step, after}
 use Rattle.definition.specs.Gate as Gate
 use Rattle.footprint.proofs.Lists.{lists-keep}
 use Rattle.only_validated.specs.Row.{Listed, NotListed, session, Validates, byCode, byAction, byRecord}
@@ -165,13 +165,16 @@ module _ (g : Gate) where
       (λ r. gain-stays _ _)
 
   gain-call : (k : Call) → Gains (Served k) (carsOf (g .phones .store)) (says (view g) k .store)
-  unfolding says saying view
+  unfolding says queueing saying view
   gain-call (Gate.newGateCall settings methods count) = gain-none _ _
   gain-call (Gate.startValidation phone method clock random) = gain-served _ _ (gain-stays _ _)
   gain-call (Gate.submitValidationCode phone typed clock) = gain-served _ _ (gain-ended _ _ _ _ (only-submit g phone typed clock _ .only))
   gain-call (Gate.onSession k) = gain-served _ _ (gain-ended _ _ _ _ (gain-session _ k .only))
   gain-call (Gate.onLists k) = gain-served _ _ (gain-listing k)
   gain-call (Gate.onSave k) = gain-served _ _ (gain-stays _ _)
+  gain-call (Gate.onQueue (Gate.sendCanFrame list frame class owner)) = gain-served _ _ (gain-stays _ _)
+  gain-call (Gate.onQueue (Gate.serveCanFrames list turns clock)) =
+      cases (λ (x : Says). Gains (Served (Gate.onQueue (Gate.serveCanFrames list turns clock))) (carsOf (g .phones .store)) (x .store)) (inRange (view g)) _ _ (λ r. gain-stays _ _) (λ r. gain-stays _ _)
   gain-call (Gate.onCore k) = gain-served _ _ (gain-stays _ _)
   gain-call (Gate.ask q) = gain-stays _ _
 

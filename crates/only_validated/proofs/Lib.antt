@@ -1,5 +1,6 @@
 pub mod Stores
 pub mod Gains
 pub mod Frames
+pub mod Turns
 pub mod Proved
 pub mod Live

@@ -1,17 +1,20 @@
 -- The row is about something: from a new gate a phone is validated in each of the three ways and its command passes; another phone's is
 -- denied, and so is the same phone's before, after it is forgotten, and on another bike; and back on its bike it passes again, also if
--- another phone was validated on the other bike.
+-- another phone was validated on the other bike. A command that waited is decided as it is served.
 use Prim.Native.Nat.{ℕ}
 use mathlib.Core.Path.{_≡_, refl}
-use mathlib.Core.Bool.{false}
+use mathlib.Core.Bool.{Bool, true, false}
 use mathlib.Core.List.{List, [], _∷_, _++_}
-use lib.ListN.{replicate}
+use lib.ListN.{replicate, set}
 use Rattle.arrays.specs.Arrays.{padded, sameBytes}
 use Rattle.phones.specs.Ids.{allOf, contains, joined, kept, pushed, removeAll, roomFor, someOf}
 use Rattle.phones.specs.Phones.{idBytes, idInRange, idOf, idsIn, listInRange, listOf, phonesOf, tooLong}
 use Rattle.frames.specs.declared.Id.the-variants.{Standard}
 use Rattle.frames.specs.declared.CanFrame.{CanFrame}
 use Rattle.frames.specs.declared.TxClass.the-variants.{Command}
+use Rattle.waiting_list.specs.declared.Waiting.{Waiting}
+use Rattle.waiting_list.specs.Queue as Queue
+use Rattle.waiting_list.specs.Queue.{blank}
 use Rattle.sha256.specs.Sha256.{K, padLast, W, rounds, hashFrom, sha256}
 use Rattle.car_digest.specs.CarDigest.{domain, carMessage, carDigest}
 use Rattle.draw.specs.Draw.{digits, drawLimit, drawn, firstBelow, group}
@@ -24,6 +27,7 @@ use Rattle.saved_record.specs.Store.{carOf, laidCar, emptyCar, carsOf, storeOf}
 use Rattle.state.specs.declared.Kind.the-variants.{InCarAction}
 use Rattle.state.specs.declared.Method.{Method}
 use Rattle.state.specs.declared.Gate.{Gate}
+use Rattle.state.specs.declared.Decided.{Decided}
 use Rattle.state.specs.declared.Answer.the-variants.{Yes, No}
 use Rattle.state.specs.Running as Running
 use Rattle.state.specs.Checks.{checked}
@@ -41,6 +45,7 @@ use Rattle.validations.specs.Store as Store
 use Rattle.save.specs.Save as Save
 use Rattle.pairing.specs.Pairing as Pairing
 use Rattle.can_tx.specs.Tx as Tx
+use Rattle.can_queue.specs.Calls as CanQueue
 use Rattle.session_times.specs.Times as Times
 use Rattle.session.specs.Session as Session
 use Rattle.validation.specs.Calls as Validation
@@ -49,9 +54,10 @@ use Rattle.answers.specs.Query as Query
 use Rattle.answers.specs.Query.{plain}
 use Rattle.new_gate.specs.New as New
 use Rattle.definition.specs.Gate as Gate
-use Rattle.definition.specs.Gate.{PackedReply, Call, startValidation, submitValidationCode, onSession, onLists, onCore, ask, step, afterAll}
+use Rattle.definition.specs.Gate.{PackedReply, Call, startValidation, submitValidationCode, onSession, onLists, onQueue, onCore, ask, step, afterAll}
+use Rattle.fair_turns.specs.Turns.{entries}
 use Rattle.definition.specs.Cases.{settings, method, phone, start}
-use Rattle.only_validated.specs.Row.{carNow, WasValidated}
+use Rattle.only_validated.specs.Row.{asked, carNow, WasValidated}
 use Rattle.only_validated.proofs.Proved.{only-validated}
 
 -- ---- a new gate with the settings and the method of the cases, and a method of an in-car action
@@ -70,6 +76,9 @@ abbrev other : List ℕ
 other = 0xC3 ∷ 0xD4 ∷ []
 
 -- ---- the calls
+
+abbrev frame : CanFrame
+frame = record { bus = 0; id = Standard 0x123; «data» = replicate 8 0; dlc = 8 }
 
 -- the host confirms the bike with this fingerprint, and its owner approves it
 abbrev onBike : List ℕ → List Call
@@ -117,20 +126,28 @@ versionOne = 1 ∷ carPart stored
 abbrev forgotten : List Call
 forgotten = onLists (Gate.forgetPhoneValidation phone) ∷ []
 
+-- the phone's command waits meanwhile
+abbrev waits : List Waiting → Call
+waits list = onQueue (Gate.sendCanFrame list frame Command phone)
+
 -- the phone is validated, then the other phone on the other bike, and the bike is back
 abbrev thereAndBack : List Call
 thereAndBack = ready ++ codeTyped ++ otherBike ++ actionDone other 2 ++ bike
 
 -- ---- what a command gets after these calls
 
-abbrev frame : CanFrame
-frame = record { bus = 0; id = Standard 0x123; «data» = replicate 8 0; dlc = 8 }
-
 abbrev told : List Call → List ℕ → PackedReply
 told ks owner = step (afterAll first ks) (onCore (Gate.allowCanTx 0 frame Command owner 3_000)) .answer
 
 abbrev readOnly : List Call → PackedReply
 readOnly ks = step (afterAll first ks) (ask (Query.isCanBusReadOnly 0)) .answer
+
+-- it is sent before these calls and served after them: its entry
+abbrev served : List Call → List Decided
+served ks = entries (afterAll first (ready ++ (waits (replicate 16 blank) ∷ ks))) (onQueue (Gate.serveCanFrames (set (replicate 16 blank) 0 (record { frame = frame; class = Command; owner = idOf phone })) 1 3_000))
+
+abbrev entry : Bool → List Decided
+entry allowed = record { frame = frame; allowed = allowed } ∷ []
 
 pub record Examples : Type 0 where
   -- validated in each of the three ways
@@ -149,9 +166,13 @@ pub record Examples : Type 0 where
   -- back on its bike, after a success on the other one (W-207); who succeeded there is denied here
   pub back : told thereAndBack phone ≡ plain Yes
   pub backOther : told thereAndBack other ≡ plain No
+  -- a command that waited is decided as it is served, and not as it is sent (W-204)
+  pub waited : served codeTyped ≡ entry true
+  pub waitedInVain : served [] ≡ entry false
+  pub waitedTooLong : served (codeTyped ++ forgotten) ≡ entry false
 
 pub examples : Examples
-unfolding padded sameBytes contains idBytes idInRange idOf idsIn joined kept listInRange listOf phonesOf pushed removeAll roomFor someOf tooLong K padLast W rounds hashFrom sha256 domain carMessage carDigest digits drawLimit drawn firstBelow group decode encode encodeAll Utf8.within isText right trim trimFront trimmed white allOf anyLong before field fields overLimits readFields carPart carParts encoded ofCar readCounted readAfter readCar readOn readCars readTwo readVersion nothingAfter hasCar twice over judged decoded carOf laidCar emptyCar carsOf storeOf Range.within Range.settingsFit Range.printable Range.methodFits Range.allFit Range.methodsIn Range.methodsFit Running.methodAt Running.cleanMethod Running.inProgress Running.codeInProgress Range.triesFit Range.sessionFits Range.windowFits Range.coreFits Range.saveFits Range.inRange Save.noSave view carInRange storeInRange listsStay Replies.leave Replies.quiet Replies.reply Replies.notified Replies.finish Policy.fingerprintConfirmed Policy.isIdentified Policy.approvedCar Policy.allowsReadWrite Policy.isReadOnly Policy.isFdBus Policy.isBusReadOnly Changes.policyChanged Access.approve DevLock.declareProduction CarIdentity.confirmPlatform CarIdentity.confirmFingerprint Can.lockAsked Can.setReadOnly Trust.isPaired Trust.validatedNow Trust.isValidated Store.withSome Store.underEvery Store.phonesFor Store.forgetting Store.forget Store.restore Store.isFull Store.displaced Store.validating Pairing.pair Tx.allowsCommand Tx.allow Times.saturatingAdd Session.endedAs Session.isOf Session.lostReadWrite Session.noteAt Session.cannotGoOn Session.lapseOf Session.placeFrom Session.placeOf Times.nextNumber checked Validation.endSession Validation.runsFor Validation.startChecks Validation.newSession Validation.begin Validation.startAt Validation.start Validation.refilled Validation.succeededCore Validation.succeed Validation.rightCode Validation.judge Validation.submitted Validation.submit Validation.isAction Validation.completed Validation.complete Query.answerTo Answers.ifInRange New.newMethods New.newCore New.madeCore New.newGate Gate.saying Gate.served Gate.ended Gate.listing Gate.said Gate.says Gate.left Gate.gives step isDigit isSeparator beginsDigit isDropped ungroupedFrom ungrouped
+unfolding padded sameBytes contains idBytes idInRange idOf idsIn joined kept listInRange listOf phonesOf pushed removeAll roomFor someOf tooLong K padLast W rounds hashFrom sha256 domain carMessage carDigest digits drawLimit drawn firstBelow group decode encode encodeAll Utf8.within isText right trim trimFront trimmed white allOf anyLong before field fields overLimits readFields carPart carParts encoded ofCar readCounted readAfter readCar readOn readCars readTwo readVersion nothingAfter hasCar twice over judged decoded carOf laidCar emptyCar carsOf storeOf Range.within Range.settingsFit Range.printable Range.methodFits Range.allFit Range.methodsIn Range.methodsFit Running.methodAt Running.cleanMethod Running.inProgress Running.codeInProgress Range.triesFit Range.sessionFits Range.windowFits Range.coreFits Range.saveFits Range.queueFits Range.inRange Save.noSave view carInRange storeInRange listsStay Replies.leave Replies.quiet Replies.reply Replies.notified Replies.finish Policy.fingerprintConfirmed Policy.isIdentified Policy.approvedCar Policy.allowsReadWrite Policy.isReadOnly Policy.isFdBus Policy.isBusReadOnly Changes.policyChanged Access.approve DevLock.declareProduction CarIdentity.confirmPlatform CarIdentity.confirmFingerprint Can.lockAsked Can.setReadOnly Trust.isPaired Trust.validatedNow Trust.isValidated Store.withSome Store.underEvery Store.phonesFor Store.forgetting Store.forget Store.restore Store.isFull Store.displaced Store.validating Pairing.pair Tx.allowsCommand Tx.allow Queue.waitingOf Queue.oldestOn Queue.hasOne Queue.firstThat Queue.nextBus Queue.nextPlace Queue.moved Queue.closedUp Queue.withOne CanQueue.sending CanQueue.ownerValidated CanQueue.turn CanQueue.turns CanQueue.turnsTaken CanQueue.serving CanQueue.reportOf Times.saturatingAdd Session.endedAs Session.isOf Session.lostReadWrite Session.noteAt Session.cannotGoOn Session.lapseOf Session.placeFrom Session.placeOf Times.nextNumber checked Validation.endSession Validation.runsFor Validation.startChecks Validation.newSession Validation.begin Validation.startAt Validation.start Validation.refilled Validation.succeededCore Validation.succeed Validation.rightCode Validation.judge Validation.submitted Validation.submit Validation.isAction Validation.completed Validation.complete Query.answerTo Answers.ifInRange New.newMethods New.newCore New.madeCore New.newGate Gate.saying Gate.served Gate.queueing Gate.ended Gate.listing Gate.said Gate.says Gate.left Gate.gives step isDigit isSeparator beginsDigit isDropped ungroupedFrom ungrouped
 examples = record {
   byCode = refl;
   byAction = refl;
@@ -165,8 +186,11 @@ examples = record {
   awayBus = refl;
   back = refl;
   backOther = refl;
+  waited = refl;
+  waitedInVain = refl;
+  waitedTooLong = refl;
 }
 
 -- what the row says of the first
 pub was-validated : WasValidated (carNow (afterAll first (ready ++ codeTyped))) phone first (ready ++ codeTyped)
-was-validated = only-validated .row settings methods 2 (ready ++ codeTyped) 0 frame phone 3_000 (examples .byCode)
+was-validated = only-validated .row settings methods 2 (ready ++ codeTyped) phone (asked 0 frame 3_000 (examples .byCode))

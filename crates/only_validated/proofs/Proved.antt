@@ -15,6 +15,7 @@ use Rattle.definition.specs.Gate.{Call, after, afterAll}
 use Rattle.only_validated.specs.Row.{listed, Listed, NotListed, carNow, Stays, last, more, WasValidated, here, later, OnlyValidated}
 use Rattle.only_validated.proofs.Stores.{unlisted}
 use Rattle.only_validated.proofs.Frames.{command, platform}
+use Rattle.only_validated.proofs.Turns.{turn-needs, passes-listed}
 use Rattle.only_validated.proofs.Gains.{becomes-listed}
 
 stays-first : {car phone : List ℕ} (g : Gate) (ks : List Call) → Stays car phone g ks → Listed g car phone
@@ -48,8 +49,9 @@ only-validated = record {
   command = command;
   platform = platform;
   call = becomes-listed;
-  anyRun = λ g ks bus frame owner clock n a. was-validated _ owner ks g n (command (afterAll g ks) bus frame owner clock .0 a .validated);
-  row = λ settings methods count ks bus frame owner clock a.
+  turn = turn-needs;
+  anyRun = λ g ks owner n p. was-validated _ owner ks g n (passes-listed (afterAll g ks) owner p);
+  row = λ settings methods count ks owner p.
       let g = newGate settings methods count .gate in
-      was-validated _ owner ks g (new-none settings methods count (carNow (afterAll g ks)) owner) (command (afterAll g ks) bus frame owner clock .0 a .validated);
+      was-validated _ owner ks g (new-none settings methods count (carNow (afterAll g ks)) owner) (passes-listed (afterAll g ks) owner p);
 }

@@ -5,6 +5,7 @@ use mathlib.Core.Path.{_≡_}
 use mathlib.Core.Bool.{Bool, true, false, _&&_}
 use mathlib.Core.List.{List, [], _∷_}
 use mathlib.Core.Logic.{_↔_, _≢_}
+use lib.ListN.{getD}
 use Rattle.arrays.specs.Arrays.{sameBytes}
 use Rattle.phones.specs.Ids.{someOf, contains}
 use Rattle.phones.specs.Phones.{idBytes}
@@ -12,6 +13,7 @@ use Rattle.frames.specs.declared.CanFrame.{CanFrame}
 use Rattle.frames.specs.declared.TxClass.{TxClass}
 use Rattle.frames.specs.declared.TxClass.the-variants.{Platform, Command}
 use Rattle.frames.specs.Frames as Frames
+use Rattle.waiting_list.specs.declared.Waiting.{Waiting}
 use Rattle.saved_record.specs.SavedRecord.{CarIds, ok, decoded}
 use Rattle.saved_record.specs.Store.{carsOf}
 use Rattle.text.specs.Text.{right}
@@ -29,9 +31,11 @@ use Rattle.policy.specs.Policy.{fingerprintConfirmed, isIdentified, isBusReadOn
 use Rattle.phone_trust.specs.Trust.{isPaired}
 use Rattle.probe_window.specs.declared.Unsent.the-variants.{At}
 use Rattle.probe_window.specs.Window.{isOpen, unsentIn}
+use Rattle.can_queue.specs.Calls.{noDecision}
 use Rattle.answers.specs.Query.{plain}
 use Rattle.new_gate.specs.New.{newGate}
 use Rattle.definition.specs.Gate.{Call, submitValidationCode, onSession, completeValidationAction, onLists, restorePhoneValidations, onCore, allowCanTx, step, after, afterAll}
+use Rattle.fair_turns.specs.Turns.{Host, serve, reported, entries, beforeTurn, taken}
 
 -- ---- who is listed
 
@@ -56,6 +60,18 @@ carNow g = g .core .policy .identity .car .digest
 -- the gate answers yes to this frame
 abbrev pub Allowed : Gate → ℕ → CanFrame → TxClass → List ℕ → ℕ → Type 0
 Allowed g bus frame class owner clock = step g (onCore (allowCanTx bus frame class owner clock)) .answer ≡ plain Yes
+
+-- turn i of a run decides a command with this frame and this owner, and reports yes (W-204)
+pub record Served (s : Host) (n clock i : ℕ) (frame : CanFrame) (owner : List ℕ) : Type 0 where
+  pub isTurn : i < reported (s .gate) (serve s n clock) .turns
+  pub entry : getD (entries (s .gate) (serve s n clock)) i noDecision ≡ record { frame = frame; allowed = true }
+  pub class : taken (beforeTurn s clock i) .class ≡ Command
+  pub owned : idBytes (taken (beforeTurn s clock i) .owner) ≡ owner
+
+-- the gate lets a command of this owner pass: it answers yes to its frame, or serves it from whatever list it is lent
+pub data Passes (g : Gate) (owner : List ℕ) : Type 0 where
+  asked : (bus : ℕ) (frame : CanFrame) (clock : ℕ) → Allowed g bus frame Command owner clock → Passes g owner
+  served : (list : List Waiting) (n clock i : ℕ) (frame : CanFrame) → Served (record { gate = g; list = list }) n clock i frame owner → Passes g owner
 
 -- what every frame needs: the gate is in range, and so is the frame's id
 abbrev pub Sound : Gate → CanFrame → Type 0
@@ -127,11 +143,12 @@ pub record OnlyValidated : Type 0 where
   -- whatever the call, a phone becomes listed for a car only if the call validates it
   pub call : (g : Gate) (k : Call) (car phone : List ℕ) → NotListed g car phone → Listed (after g k) car phone
       → (inRange (view g) ≡ true) × Validates g car phone k
+  -- a command that waited passes by the same rule, at the gate as it is before its turn
+  pub turn : (s : Host) (n clock i : ℕ) (frame : CanFrame) (owner : List ℕ) → Served s n clock i frame owner → MayCommand (beforeTurn s clock i .gate) (frame .bus) frame owner
   -- whatever the calls, from any gate that does not list the owner: if a command of it passes after them, one of them validated it for
   -- the car identified then
-  pub anyRun : (g : Gate) (ks : List Call) (bus : ℕ) (frame : CanFrame) (owner : List ℕ) (clock : ℕ) → NotListed g (carNow (afterAll g ks)) owner
-      → Allowed (afterAll g ks) bus frame Command owner clock → WasValidated (carNow (afterAll g ks)) owner g ks
+  pub anyRun : (g : Gate) (ks : List Call) (owner : List ℕ) → NotListed g (carNow (afterAll g ks)) owner → Passes (afterAll g ks) owner
+      → WasValidated (carNow (afterAll g ks)) owner g ks
   -- the row: the same from a new gate
-  pub row : (settings : Settings) (methods : List Method) (count : ℕ) (ks : List Call) (bus : ℕ) (frame : CanFrame) (owner : List ℕ) (clock : ℕ)
-      → Allowed (afterAll (newGate settings methods count .gate) ks) bus frame Command owner clock
+  pub row : (settings : Settings) (methods : List Method) (count : ℕ) (ks : List Call) (owner : List ℕ) → Passes (afterAll (newGate settings methods count .gate) ks) owner
       → WasValidated (carNow (afterAll (newGate settings methods count .gate) ks)) owner (newGate settings methods count .gate) ks

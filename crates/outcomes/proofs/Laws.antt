@@ -3,7 +3,7 @@ use mathlib.Core.Path.{_≡_, refl, ap, sym, _∙_}
 use mathlib.Core.Bool.{Bool, true, false, cond}
 use mathlib.Core.List.{List}
 use Prim.Native.Nat.{ℕ}
-use Rattle.phones.specs.Ids.{Left, stays}
+use Rattle.phones.specs.Ids.{Left, stays, becomes, afterwards}
 use Rattle.saved_record.specs.declared.Store.{Store}
 use Rattle.saved_record.specs.SavedRecord.{CarIds}
 use Rattle.saved_record.specs.Store.{carsOf}
@@ -23,33 +23,38 @@ use Rattle.range.specs.Range.{inRange}
 use Rattle.answers.specs.Query.{plain}
 use Rattle.validations.proofs.Laid.{store-after}
 use Rattle.validation.specs.Calls.{unvalidated}
-use Rattle.definition.specs.Gate.{SessionCall, ListCall, SaveCall, CoreCall, onSession, onLists, onSave, onCore, saying, ofCore, ofSession, ofLists, ofSave, saving, Lent, nothing, lentToSave, lentAfter, givenWith, asked, served, ended, listing, said, fullFor, says, left, gives, packed, step, given}
+use Rattle.definition.specs.Gate.{SessionCall, ListCall, SaveCall, CoreCall, onSession, onLists, onSave, onCore, saying, ofCore, ofSession, ofLists, ofSave, saving, Lent, nothing, bytes, lentToSave, lentAs, lentAfter, givenWith, asked, served, ended, listing, said, fullFor, says, left, gives, packed, step, given}
 use Rattle.outcomes.specs.Served.{outOfRange, saidOn, endedOn, listedOn, keptOn}
 use Rattle.outcomes.specs.Settled.{put, storedIf, Settles, Keeps}
 
 -- ---- what is put together
 
 pub put-core : (g : Gate) (drawn : List ℕ) (o : Said)
-    → given (put (g .code) drawn o (g .phones) (g .save) (sending (showing (codeAt (g .code) drawn (o .shows)) (o .raised)) noS)) ≡ gives packed g nothing (ofCore (view g) drawn o)
+    → given (put (g .code) drawn o (g .phones) (g .save) (g .queue) (sending (showing (codeAt (g .code) drawn (o .shows)) (o .raised)) noS)) ≡ gives packed g nothing (ofCore (view g) drawn o)
 unfolding put gives saying left view
 put-core g drawn o = refl
 
 pub put-stored : (g : Gate) (o : Said) (stores : Bool) (v : Store) (x : Left (List CarIds)) → v ≡ laidStore (g .phones .store) x
-    → given (put (g .code) noCode o (record { paired = g .phones .paired; store = v }) (g .save) (sending (showing (codeAt (g .code) noCode (o .shows)) (o .raised)) (storedIf stores (carsOf v)))) ≡ gives packed g nothing (saying (view g) noCode o stores x)
+    → given (put (g .code) noCode o (record { paired = g .phones .paired; store = v }) (g .save) (g .queue) (sending (showing (codeAt (g .code) noCode (o .shows)) (o .raised)) (storedIf stores (carsOf v)))) ≡ gives packed g nothing (saying (view g) noCode o stores x)
 unfolding put gives saying left view
 put-stored g o stores v x e = rw (e, store-after (g .phones .store) x)
 
 pub put-lists : (g : Gate) (d : Listing) (x : Listed) → x ≡ listedIn (g .phones) d
-    → given (record { answer = x .answer; signals = sending (x .raised) (storedIf (x .stores) (carsOf (x .phones .store))); gate = record { core = g .core; phones = x .phones; save = g .save; code = g .code } })
+    → given (record { answer = x .answer; signals = sending (x .raised) (storedIf (x .stores) (carsOf (x .phones .store))); gate = record { core = g .core; phones = x .phones; save = g .save; queue = g .queue; code = g .code } })
     ≡ gives packed g nothing (ofLists (view g) d)
 unfolding gives left view
 put-lists g d x e = rw (e, store-after (g .phones .store) (d .store))
 
 pub put-save : (g : Gate) (m : Lent) (d : Saving) (x : Kept) → Says x d
-    → givenWith (record { answer = x .answer; signals = noSignals; gate = record { core = g .core; phones = g .phones; save = x .save; code = g .code } }) (lentAfter m (d .lent))
+    → givenWith (record { answer = x .answer; signals = noSignals; gate = record { core = g .core; phones = g .phones; save = x .save; queue = g .queue; code = g .code } }) (lentAfter m (lentAs bytes (d .lent)))
     ≡ gives packed g m (ofSave (view g) d)
 unfolding gives left view noSignals nothingRaised
 put-save g m d x e = rw e
+
+-- lent memory as it is left, by what it holds
+pub lent-as : {A : Type 0} (f : A → Lent) (m : A) (x : Left A) → f (afterwards m x) ≡ afterwards (f m) (lentAs f x)
+lent-as f m stays = refl
+lent-as f m (becomes y) = refl
 
 -- ---- 25 before what is said, or in it
 
@@ -110,9 +115,9 @@ module _ (g : Gate) where
 
   -- an operation on the save
   pub by-save : (k : SaveCall) (x : Kept) (r : Outcome) → Says x (keptOn (view g) (saving (carsOf (g .phones .store)) (g .save) k)) → Keeps g x r
-      → givenWith r (lentAfter (lentToSave k) (keptOn (view g) (saving (carsOf (g .phones .store)) (g .save) k) .lent)) ≡ step g (onSave k)
+      → givenWith r (lentAfter (lentToSave k) (lentAs bytes (keptOn (view g) (saving (carsOf (g .phones .store)) (g .save) k) .lent))) ≡ step g (onSave k)
   unfolding step says served keptOn view
   by-save k x r e z =
       let b = inRange (view g) in
       let d = saving (carsOf (g .phones .store)) (g .save) k in
-      z _ (lentToSave k) e ∙ sym (ap (gives packed g (lentToSave k)) (save-or (view g) b d))
+      z (keptOn (view g) d) (lentToSave k) e ∙ sym (ap (gives packed g (lentToSave k)) (save-or (view g) b d))

@@ -12,20 +12,24 @@ use Rattle.state.specs.declared.Listed.{Listed}
 use Rattle.state.specs.declared.Signals.{Signals}
 use Rattle.state.specs.declared.Outcome.{Outcome}
 use Rattle.state.specs.declared.Save.{Save}
-use Rattle.state.specs.Replies.{noS, sentS, codeAt}
+use Rattle.state.specs.declared.Queue.{Queue}
+use Rattle.state.specs.declared.Core.{Core}
+use Rattle.state.specs.declared.Answer.{Answer}
+use Rattle.state.specs.Replies.{noS, sentS, noSignals, codeAt}
 use Rattle.state.specs.View.{Listing, view, listedIn}
 use Rattle.validations.specs.Store.{recordFor}
 use Rattle.save.specs.declared.Kept.{Kept}
 use Rattle.save.specs.Save.{Saving}
 use Rattle.save.specs.Steps.{Says}
-use Rattle.definition.specs.Gate.{ofLists, ofSave, Lent, nothing, lentAfter, gives, packed, given, givenWith}
+use Rattle.definition.specs.Gate.{ofLists, ofSave, Lent, nothing, bytes, lentAs, lentAfter, gives, packed, given, givenWith}
 
--- what an operation on the core says, with the digits where it marks them, and the lists, the save and the signals beside it
-unfoldable pub put : List ℕ → List ℕ → Said → Phones → Save → Signals → Outcome
-put held drawn o p v s = record {
+-- what an operation on the core says, with the digits where it marks them, and the lists, the save, the waiting frames and the signals beside
+-- it
+unfoldable pub put : List ℕ → List ℕ → Said → Phones → Save → Queue → Signals → Outcome
+put held drawn o p v q s = record {
   answer = o .answer;
   signals = s;
-  gate = record { core = o .core; phones = p; save = v; code = codeAt held drawn (o .code) };
+  gate = record { core = o .core; phones = p; save = v; queue = q; code = codeAt held drawn (o .code) };
 }
 
 -- S, if it is sent
@@ -38,4 +42,8 @@ Settles g x r = (d : Listing) → x ≡ listedIn (g .phones) d → given r ≡ g
 
 -- a save that was said already, whatever operation left it, with the memory that it was lent
 abbrev pub Keeps : Gate → Kept → Outcome → Type 0
-Keeps g x r = (d : Saving) (m : Lent) → Says x d → givenWith r (lentAfter m (d .lent)) ≡ gives packed g m (ofSave (view g) d)
+Keeps g x r = (d : Saving) (m : Lent) → Says x d → givenWith r (lentAfter m (lentAs bytes (d .lent))) ≡ gives packed g m (ofSave (view g) d)
+
+-- what an operation on the waiting frames leaves, with its answer; it sends nothing
+abbrev pub queued : Gate → Answer → Core → Queue → Outcome
+queued g a c q = record { answer = a; signals = noSignals; gate = record { core = c; phones = g .phones; save = g .save; queue = q; code = g .code } }

@@ -10,6 +10,7 @@ use state::Gate;
 use state::Listed;
 use state::Outcome;
 use state::Phones;
+use state::Queue;
 use state::Raised;
 use state::Said;
 use state::Save;
@@ -108,16 +109,17 @@ fn raised_by(held: [u8; 9], drawn: [u8; 9], said: Said) -> Raised
     state::replies::showing(digits, told)
 }
 
-// The gate with these lists and this save, and with the digits where the operation marks them.
+// The gate with these lists, this save and these waiting frames, and with the digits where the operation marks them.
 fn put(
     held: [u8; 9],
     drawn: [u8; 9],
     said: Said,
     phones: Phones,
     save: Save,
+    queue: Queue,
     signals: Signals,
 ) -> Outcome
-    ensures { λ r. ⌜ r ≡ Settled.put held drawn said phones save signals ⌝ }
+    ensures { λ r. ⌜ r ≡ Settled.put held drawn said phones save queue signals ⌝ }
 {
     let mark = said.code;
     let code = state::replies::code_at(held, drawn, mark);
@@ -126,6 +128,7 @@ fn put(
         core,
         phones,
         save,
+        queue,
         code,
     };
     let answer = said.answer;
@@ -156,7 +159,8 @@ pub fn drew(g: Gate, drawn: [u8; 9], said: Said) -> Outcome
     let signals = state::replies::sending(raised, none);
     let phones = g.phones;
     let save = g.save;
-    put(held, drawn, said, phones, save, signals)
+    let queue = g.queue;
+    put(held, drawn, said, phones, save, queue, signals)
 }
 
 // The same of a call that draws none.
@@ -195,7 +199,8 @@ pub fn ended(g: Gate, e: Ended) -> Outcome
     let paired = g.phones.paired;
     let phones = Phones { paired, store };
     let save = g.save;
-    put(held, none, said, phones, save, signals)
+    let queue = g.queue;
+    put(held, none, said, phones, save, queue, signals)
 }
 
 // What an operation on the lists gives.
@@ -209,11 +214,13 @@ pub fn listed(g: Gate, x: Listed) -> Outcome
     let signals = state::replies::sending(raised, s);
     let core = g.core;
     let save = g.save;
+    let queue = g.queue;
     let code = g.code;
     let gate = Gate {
         core,
         phones,
         save,
+        queue,
         code,
     };
     let answer = x.answer;
@@ -232,14 +239,38 @@ pub fn kept(g: Gate, x: Kept) -> Outcome
     let core = g.core;
     let phones = g.phones;
     let save = x.save;
+    let queue = g.queue;
     let code = g.code;
     let gate = Gate {
         core,
         phones,
         save,
+        queue,
         code,
     };
     let answer = x.answer;
+    Outcome {
+        answer,
+        signals,
+        gate,
+    }
+}
+
+// What an operation on the waiting frames gives: the core and the count that it leaves. Nothing is sent.
+pub fn queued(g: Gate, answer: Answer, core: Core, queue: Queue) -> Outcome
+    ensures { λ r. ⌜ r ≡ Settled.queued g answer core queue ⌝ }
+{
+    let signals = state::replies::no_signals();
+    let phones = g.phones;
+    let save = g.save;
+    let code = g.code;
+    let gate = Gate {
+        core,
+        phones,
+        save,
+        queue,
+        code,
+    };
     Outcome {
         answer,
         signals,

@@ -1,4 +1,5 @@
 pub mod Laws
+pub mod Made
 pub mod Walk
 pub mod Search
 pub mod Build

@@ -1,7 +1,7 @@
--- What `within` says; the steps of a loop that tests every element: what is left to test is what stands from i on; and the cars
+-- What `within` says, and the range of the waiting frames; the steps of a loop that tests every element: what is left to test is what stands from i on; and the cars
 -- in use, by their places.
 use mathlib.Core.Path.{_≡_, refl, sym, ap, _∙_}
-use mathlib.Core.Bool.{Bool, true, false, cond, true≢false}
+use mathlib.Core.Bool.{Bool, true, false, cond, true≢false, and-eq-true-iff}
 use mathlib.Core.List.{List, [], _∷_}
 use Prim.Native.Nat.{ℕ, zero, suc, _+_, _≤_, _<_}
 use native.Mathlib.Numerals.{add-one}
@@ -14,8 +14,8 @@ use Rattle.phones.specs.Ids.{allOf}
 use Rattle.saved_record.specs.declared.CarPhones.{CarPhones}
 use Rattle.saved_record.specs.declared.Store.{Store}
 use Rattle.saved_record.proofs.Laws.{place, four, below}
-use Rattle.state.specs.View.{carInRange}
-use Rattle.range.specs.Range.{within}
+use Rattle.state.specs.View.{View, carInRange}
+use Rattle.range.specs.Range.{within, queueFits, inRange}
 
 pub within-is : (low high x : ℕ) → within low high x ≡ true → (low ≤ x) × (x ≤ high)
 unfolding within
@@ -25,6 +25,14 @@ within-is low high x = go (ltb x low) refl (ltb high x) refl
     go false p false q e = (ltb-false x low p, ltb-false high x q)
     go false p true q e = absurd (true≢false (sym e))
     go true p b q e = absurd (true≢false (sym e))
+
+-- of a gate in range no more than sixteen wait
+pub few-wait : (v : View) → inRange v ≡ true → v .queue .count < 17
+unfolding inRange queueFits
+few-wait v h =
+    let p = simp and-eq-true-iff at h in
+    let b = within-is 0 16 (v .queue .count) (p .1 .0) in
+    omega arith
 
 module _ {A : Type 0} (f : A → Bool) (xs : List A) (d : A) (i : ℕ) (h : i < length xs) (inv : allOf f xs ≡ allOf f (drop i xs)) where
   step : allOf f xs ≡ cond (f (getD xs i d)) (allOf f (drop (i + 1) xs)) false

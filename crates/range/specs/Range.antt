@@ -14,6 +14,7 @@ use Rattle.state.specs.declared.Validation.{Validation}
 use Rattle.state.specs.declared.Window.{Window}
 use Rattle.state.specs.declared.Core.{Core}
 use Rattle.state.specs.declared.Save.{Save}
+use Rattle.state.specs.declared.Queue.{Queue}
 use Rattle.state.specs.View.{View}
 
 -- x is from low to high
@@ -75,6 +76,10 @@ coreFits c =
 unfoldable pub saveFits : Save → Bool
 saveFits s = cond (s .present) (within 0 4358 (s .stored .len) && within 0 (s .stored .len) (s .at)) true
 
+-- 02, W-204: "The gate keeps the count and the bus last served, 25 if out of range"
+unfoldable pub queueFits : Queue → Bool
+queueFits q = within 0 16 (q .count) && within 0 3 (q .last)
+
 -- 01, New gate: a gate out of range gets 25 first. Lists: the counts and lengths of all, and W-207: no digest under two cars
 unfoldable pub inRange : View → Bool
-inRange v = coreFits (v .core) && v .pairedFits && v .storeFits && saveFits (v .save)
+inRange v = coreFits (v .core) && v .pairedFits && v .storeFits && saveFits (v .save) && queueFits (v .queue)

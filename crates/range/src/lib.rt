@@ -234,6 +234,16 @@ fn save_fits(present: bool, len: usize, at: usize) -> bool
     true
 }
 
+// How many frames wait, and the bus last served.
+fn queue_fits(count: usize, last: u8) -> bool
+    ensures { λ r. ⌜ r ≡ (Range.within 0 16 count && Range.within 0 3 last) ⌝ }
+{
+    if within(0, 16, count as u64) {
+        return within(0, 3, last as u64);
+    }
+    false
+}
+
 // Whether a lent gate is served; otherwise every call answers 25.
 pub fn in_range(g: Gate) -> bool
     ensures { λ r. ⌜ r ≡ inRange (view g) ⌝ }
@@ -244,7 +254,9 @@ pub fn in_range(g: Gate) -> bool
         if phones::list_in_range(paired) {
             let store = g.phones.store;
             if store_in_range(store) {
-                return save_fits(g.save.present, g.save.stored.len, g.save.at);
+                if save_fits(g.save.present, g.save.stored.len, g.save.at) {
+                    return queue_fits(g.queue.count, g.queue.last);
+                }
             }
         }
     }

@@ -17,8 +17,8 @@ use Rattle.replay_player.specs.Played.{played, withState, passedOver, tooLong}
 use Rattle.replay_player.proofs.Laws.{played-host, state-host}
 use Rattle.word_table.specs.Words.{before}
 use Rattle.replay_script.proofs.Laws.{found}
-use Rattle.replay_steps.specs.Turns.{Turn}
-use Rattle.replay_steps.specs.declared.Host.{Host}
+use Rattle.replay_given.specs.Turns.{Turn}
+use Rattle.replay_host.specs.declared.Host.{Host}
 use Rattle.replay.specs.Script.{keptLen, keptIn, Line, short, long, lineIn, plus, lineGives, hostAfter, Reading, ended, grown, read, readingOf, nextLine}
 use Rattle.replay.specs.declared.Replay.{Replay}
 

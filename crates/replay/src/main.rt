@@ -4,15 +4,15 @@
 use libc::STDERR_FILENO;
 use libc::STDIN_FILENO;
 use libc::STDOUT_FILENO;
-use replay_steps::Host;
-use replay_steps::Played;
+use replay_given::Played;
+use replay_host::Host;
 ghost use mathlib.Core.Bool.{true};
 ghost use mathlib.Core.Path.{_≡_};
 ghost use Prim.Native.Nat.{_≤_};
 ghost use lib.ListN.{length};
 ghost use Rattle.replay_lines.specs.Page.{page};
 ghost use Rattle.replay_player.specs.Played.{mostRead, lineRoom};
-ghost use Rattle.replay_steps.specs.Turns.{turnOf};
+ghost use Rattle.replay_given.specs.Turns.{turnOf};
 ghost use Rattle.replay.specs.Arguments.{askedBy};
 ghost use Rattle.replay.specs.Script.{keptLen, keptIn, lineIn, lineGives, hostAfter, read, ReadOn, readingOf, nextLine};
 
@@ -96,10 +96,10 @@ fn give_line(p: Replay, line: &[u8], states: bool, room: &mut [u8], out: &mut [u
     let h = p.host;
     if line.len() < n {
         let k = replay_player::put_too_long(p.number, out);
-        return replay_steps::not_called(h, k);
+        return replay_given::not_called(h, k);
     }
     if replay_player::is_passed_over(&line[..n]) {
-        return replay_steps::not_called(h, 0);
+        return replay_given::not_called(h, 0);
     }
     replay_player::play(h, p.number, &line[..n], states, room, out)
 }

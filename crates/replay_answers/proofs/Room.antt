@@ -49,7 +49,7 @@ use Rattle.replay_lines.proofs.StoreRoom.{saved-in, lists-in}
 use Rattle.replay_lines.proofs.Room.{_⊕_, upto, either, same, text-in, comma-in, item-in, flag-in, word-in, digits-in, id-in, phones-in, method-in}
 use Rattle.replay_answers.specs.Query.{isDone, approvalName, trustName, told, approval, access, phonesListed, trust, peer, seenIn, shown, phoneAccess, methodAt, methodsTo, methods, challenge, encoded, preview, longRoom}
 
-told-in : (a : Answer) (vs : List Val) → Owned Answer.the-field a vs → (n : ℕ) (f : Page → Page) → Within n f → Within (205 + n) (told a f)
+pub told-in : (a : Answer) (vs : List Val) → Owned Answer.the-field a vs → (n : ℕ) (f : Page → Page) → Within n f → Within (205 + n) (told a f)
 unfolding told
 told-in a vs h n f u = either (isDone a) (answer-in a vs h ⊕ u) (upto (205 + n) (omega arith) (answer-in a vs h))
 

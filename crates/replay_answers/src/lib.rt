@@ -32,7 +32,7 @@ pub enum Seen {
     Shown(SessionReply),
 }
 
-fn is_done(a: Answer) -> bool
+pub fn is_done(a: Answer) -> bool
     ensures { λ r. ⌜ r ≡ isDone a ⌝ }
 {
     let s = replay_lines::answer::shown_by(a);
@@ -69,7 +69,7 @@ fn trust_word(t: Trust) -> usize
 }
 
 // The answer, and the fields behind it if it is Done.
-fn put_told(out: &mut [u8], at: usize, a: Answer, lent: &[u8], fields: [Field; 8]) -> usize
+pub fn put_told(out: &mut [u8], at: usize, a: Answer, lent: &[u8], fields: [Field; 8]) -> usize
     ensures { λ r. ⌜ page (now (out .exit)) r ≡ told a (putFields (now (lent .entry)) fields) (page (now (out .entry)) at) ⌝ }
 {
     let k = replay_lines::answer::put_answer(out, at, a);

@@ -9,7 +9,7 @@ use Rattle.definition.specs.Gate.{ask, onCore, approveCanReadWrite}
 use Rattle.answers.specs.Query.{isCanReadOnly, canReadWriteApproval}
 use Rattle.replay_items.specs.Bytes.{Bytes}
 use Rattle.replay_items.specs.declared.Items.{Items}
-use Rattle.replay_calls.specs.Calls.{Line, call, unknown, asking, newCall, phoneCalls, canCalls, plainQueries, longQueries, phoneCall, canCall, plainQuery, longQuery, otherLines, otherLine, lines, lineOf}
+use Rattle.replay_calls.specs.Calls.{Line, call, unknown, asking, newCall, phoneCalls, canCalls, plainQueries, longQueries, phoneCall, canCall, plainQuery, longQuery, otherLines, otherLine, hostLines, hostLine, restLines, askingLines, lines, restLine, askingLine, lineOf}
 
 -- n is none of the numbers from 1 to k
 abbrev pub Others : ℕ → ℕ → Type 0
@@ -59,47 +59,45 @@ plains = 17
 abbrev longs : ℕ
 longs = 14
 
+abbrev others : ℕ
+others = 4
+
 -- the line of a row, by its kind and its place there
 module _ (i : Items) (b : Bytes) (n : ℕ) where
-  abbrev fromLong : List Line
-  fromLong = map asking (longQueries i b) ++ otherLines i b
-
-  abbrev fromPlain : List Line
-  fromPlain = map asking (plainQueries i b) ++ fromLong
-
   abbrev fromCan : List Line
-  fromCan = map call (canCalls i b) ++ fromPlain
+  fromCan = map call (canCalls i b) ++ askingLines i b
 
   pub line-phone : n < phones → lineOf n i b ≡ call (phoneCall n i b)
   unfolding lineOf lines phoneCall phoneCalls
   line-phone h = here call (phoneCalls i b) fromCan n (newCall i) h
 
-  module _ (h : phones ≤ n) where
-    pub line-can : n - phones < cans → lineOf n i b ≡ call (canCall (n - phones) i b)
-    unfolding lineOf lines phoneCalls canCall canCalls
-    line-can t = behind call (phoneCalls i b) fromCan n h ∙ here call (canCalls i b) fromPlain (n - phones) (onCore approveCanReadWrite) t
+  pub line-can : phones ≤ n → n - phones < cans → lineOf n i b ≡ call (canCall (n - phones) i b)
+  unfolding lineOf lines phoneCalls canCall canCalls
+  line-can h t = behind call (phoneCalls i b) fromCan n h ∙ here call (canCalls i b) (askingLines i b) (n - phones) (onCore approveCanReadWrite) t
 
-    module _ (k : cans ≤ n - phones) where
-      pub line-plain : n - phones - cans < plains → lineOf n i b ≡ call (ask (plainQuery (n - phones - cans) i b))
-      unfolding lineOf lines phoneCalls canCalls plainQuery plainQueries
-      line-plain t =
-          behind call (phoneCalls i b) fromCan n h
-          ∙ behind call (canCalls i b) fromPlain (n - phones) k
-          ∙ here asking (plainQueries i b) fromLong (n - phones - cans) isCanReadOnly t
+  pub line-asking : phones ≤ n → cans ≤ n - phones → lineOf n i b ≡ askingLine (n - phones - cans) i b
+  unfolding lineOf lines phoneCalls canCalls askingLine
+  line-asking h k = behind call (phoneCalls i b) fromCan n h ∙ behind call (canCalls i b) (askingLines i b) (n - phones) k
 
-      module _ (l : plains ≤ n - phones - cans) where
-        pub line-long : n - phones - cans - plains < longs → lineOf n i b ≡ call (ask (longQuery (n - phones - cans - plains) i b))
-        unfolding lineOf lines phoneCalls canCalls plainQueries longQuery longQueries
-        line-long t =
-            behind call (phoneCalls i b) fromCan n h
-            ∙ behind call (canCalls i b) fromPlain (n - phones) k
-            ∙ behind asking (plainQueries i b) fromLong (n - phones - cans) l
-            ∙ here asking (longQueries i b) (otherLines i b) (n - phones - cans - plains) canReadWriteApproval t
+  abbrev fromLong : List Line
+  fromLong = map asking (longQueries i b) ++ restLines i b
 
-        pub line-other : longs ≤ n - phones - cans - plains → lineOf n i b ≡ otherLine (n - phones - cans - plains - longs) i b
-        unfolding lineOf lines phoneCalls canCalls plainQueries longQueries otherLine
-        line-other t =
-            behind call (phoneCalls i b) fromCan n h
-            ∙ behind call (canCalls i b) fromPlain (n - phones) k
-            ∙ behind asking (plainQueries i b) fromLong (n - phones - cans) l
-            ∙ behind asking (longQueries i b) (otherLines i b) (n - phones - cans - plains) t
+  pub asking-plain : n < plains → askingLine n i b ≡ call (ask (plainQuery n i b))
+  unfolding askingLine askingLines plainQuery plainQueries
+  asking-plain h = here asking (plainQueries i b) fromLong n isCanReadOnly h
+
+  pub asking-long : plains ≤ n → n - plains < longs → askingLine n i b ≡ call (ask (longQuery (n - plains) i b))
+  unfolding askingLine askingLines plainQueries longQuery longQueries
+  asking-long h t = behind asking (plainQueries i b) fromLong n h ∙ here asking (longQueries i b) (restLines i b) (n - plains) canReadWriteApproval t
+
+  pub asking-rest : plains ≤ n → longs ≤ n - plains → askingLine n i b ≡ restLine (n - plains - longs) i b
+  unfolding askingLine askingLines plainQueries longQueries restLine
+  asking-rest h k = behind asking (plainQueries i b) fromLong n h ∙ behind asking (longQueries i b) (restLines i b) (n - plains) k
+
+  pub rest-other : n < others → restLine n i b ≡ otherLine n i b
+  unfolding restLine restLines otherLine otherLines
+  rest-other h = here (λ (x : Line). x) (otherLines i b) (hostLines i b) n unknown h
+
+  pub rest-host : others ≤ n → restLine n i b ≡ hostLine (n - others) i b
+  unfolding restLine restLines otherLines hostLine
+  rest-host h = behind (λ (x : Line). x) (otherLines i b) (hostLines i b) n h

@@ -5,8 +5,11 @@ use mathlib.Core.List.{List, [], _∷_, _++_, map}
 use Prim.Native.Nat.{ℕ}
 use lib.ListN.{getD}
 use Rattle.answers.specs.Query.{Query, isCanReadOnly, canReadOnlyReason, isCarIdentityConfirmed, isCarFingerprintConfirmed, canReadWriteApproval, hasCanDevWriteLock, isCanDevWriteUnlocked, canAccessState, platformId, isCanLogging, isCanFdBus, isCanBusReadOnly, isCanBusListenOnly, isPhonePaired, pairedPhoneCount, listPairedPhones, bleMaxBondedPhones, isPhoneValidated, carHasValidatedPhone, phoneTrustLevel, blePeer, encodePhoneValidations, phoneAccessState, validationMethods, sessionFor, currentValidationChallenge, previewRemovePairedPhone, previewForgetPhoneValidation, previewClearPairedPhones, previewPrunePhoneValidations, previewApproveCanReadWrite}
-use Rattle.definition.specs.Gate.{Call, newGateCall, startValidation, submitValidationCode, onSession, onLists, onSave, onCore, ask}
-use Rattle.definition.specs.Gate.{cancelValidation, completeValidationAction, tickValidation, addPairedPhone, removePairedPhone, clearPairedPhones, forgetPhoneValidation, prunePhoneValidations, setBlePeer, restorePhoneValidations, openPhoneValidationsSave, takePhoneValidationsSave, approveCanReadWrite, revokeCanReadWriteApproval, restoreCanReadWriteApproval, setCanDevWriteUnlocked, declareProductionBuild, confirmCarIdentity, revokeCarIdentity, confirmCarFingerprint, setCanReadOnly, openIdentityProbe, closeIdentityProbe, allowCanTx, heardCanFrame, notePlatformId, noteCanLogging, noteCanFdBus, noteMethodAvailable, noteMethodCanContinue}
+use Rattle.definition.specs.Gate.{Call, QueueCall, newGateCall, startValidation, submitValidationCode, onSession, onLists, onSave, onCore, ask}
+use Rattle.definition.specs.Gate.{cancelValidation, completeValidationAction, tickValidation, addPairedPhone, removePairedPhone, clearPairedPhones, forgetPhoneValidation, prunePhoneValidations, setBlePeer, restorePhoneValidations, openPhoneValidationsSave, takePhoneValidationsSave, sendCanFrame, serveCanFrames, approveCanReadWrite, revokeCanReadWriteApproval, restoreCanReadWriteApproval, setCanDevWriteUnlocked, declareProductionBuild, confirmCarIdentity, revokeCarIdentity, confirmCarFingerprint, setCanReadOnly, openIdentityProbe, closeIdentityProbe, allowCanTx, heardCanFrame, notePlatformId, noteCanLogging, noteCanFdBus, noteMethodAvailable, noteMethodCanContinue}
+use Rattle.frames.specs.declared.CanFrame.{CanFrame}
+use Rattle.frames.specs.declared.TxClass.{TxClass}
+use Rattle.waiting_list.specs.declared.Waiting.{Waiting}
 use Rattle.replay_items.specs.Bytes.{Bytes}
 use Rattle.replay_items.specs.declared.Items.{Items}
 
@@ -117,12 +120,15 @@ longQuery n i b = getD (longQueries i b) n canReadWriteApproval
 
 -- ---- every line
 
--- a call of the gate; a line that is no call; or one that has no name
+-- a call of the gate, or one that is lent what the host lends of its list; a line that is no call; or one that has no name
 pub data Line : Type 0 where
   call : Call → Line
+  lending : (List Waiting → QueueCall) → Line
   counters : (next relocks : ℕ) → Line
   convert : (saved : List ℕ) (two : Bool) (out : List ℕ) → Line
-  state unknown : Line
+  setList : (length : ℕ) → Line
+  setRecord : (place : ℕ) (frame : CanFrame) (class : TxClass) (owner : List ℕ) → Line
+  state lentList unknown : Line
 
 abbrev pub asking : Query → Line
 asking q = call (ask q)
@@ -139,14 +145,34 @@ otherLines i b =
 unfoldable pub otherLine : ℕ → Items → Bytes → Line
 otherLine n i b = getD (otherLines i b) n unknown
 
--- a line for each row
+-- the calls on waiting frames, and the lines about the host's list (02, W-204)
+unfoldable pub hostLines : Items → Bytes → List Line
+hostLines i b =
+    lending (λ (list : List Waiting). sendCanFrame list (i .frame .frame) (i .class .class) (b .owner))
+    ∷ lending (λ (list : List Waiting). serveCanFrames list (i .numbers .turns .value) (i .numbers .clock .value))
+    ∷ setList (i .numbers .length .value)
+    ∷ setRecord (i .numbers .slot .value) (i .frame .frame) (i .class .class) (b .owner)
+    ∷ lentList
+    ∷ []
+
+unfoldable pub hostLine : ℕ → Items → Bytes → Line
+hostLine n i b = getD (hostLines i b) n unknown
+
+-- a line for each row: what changes the gate, what asks it, and the rest
+unfoldable pub restLines : Items → Bytes → List Line
+restLines i b = otherLines i b ++ hostLines i b
+
+unfoldable pub askingLines : Items → Bytes → List Line
+askingLines i b = map asking (plainQueries i b) ++ (map asking (longQueries i b) ++ restLines i b)
+
 unfoldable pub lines : Items → Bytes → List Line
-lines i b =
-    map call (phoneCalls i b)
-    ++ (map call (canCalls i b)
-    ++ (map asking (plainQueries i b)
-    ++ (map asking (longQueries i b)
-    ++ otherLines i b)))
+lines i b = map call (phoneCalls i b) ++ (map call (canCalls i b) ++ askingLines i b)
+
+unfoldable pub restLine : ℕ → Items → Bytes → Line
+restLine n i b = getD (restLines i b) n unknown
+
+unfoldable pub askingLine : ℕ → Items → Bytes → Line
+askingLine n i b = getD (askingLines i b) n unknown
 
 unfoldable pub lineOf : ℕ → Items → Bytes → Line
 lineOf n i b = getD (lines i b) n unknown

@@ -21,10 +21,10 @@ fn conversion_word(c: Conversion) -> usize
     match c {
         Conversion::Done => 0,
         Conversion::Malformed => 25,
-        Conversion::CarTwice => 29,
+        Conversion::CarTwice => 31,
         Conversion::TooLarge => 26,
-        Conversion::ManyCars => 30,
-        Conversion::ShortOutput => 31,
+        Conversion::ManyCars => 32,
+        Conversion::ShortOutput => 33,
     }
 }
 

@@ -39,6 +39,9 @@ found i =
     ∷ 1 if i .numbers .place .ok
     ∷ 1 if i .numbers .next .ok
     ∷ 1 if i .numbers .relocks .ok
+    ∷ 1 if i .numbers .turns .ok
+    ∷ 1 if i .numbers .length .ok
+    ∷ 1 if i .numbers .slot .ok
     ∷ 1 if i .switches .unlocked .ok
     ∷ 1 if i .switches .enabled .ok
     ∷ 1 if i .switches .on .ok

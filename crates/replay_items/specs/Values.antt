@@ -18,6 +18,7 @@ use Rattle.replay_script.specs.declared.Number.the-variants.{Given, NoNumber}
 use Rattle.replay_items.specs.declared.Small.{Small}
 use Rattle.replay_items.specs.declared.Word.{Word}
 use Rattle.replay_items.specs.declared.Clock.{Clock}
+use Rattle.replay_items.specs.declared.Place.{Place}
 use Rattle.replay_items.specs.declared.Switch.{Switch}
 use Rattle.replay_items.specs.declared.ClassItem.{ClassItem}
 use Rattle.replay_items.specs.declared.FrameItem.{FrameItem}
@@ -48,6 +49,15 @@ wordAt key line = wordOf (theNumber 4294967295 (itemOf key line))
 unfoldable pub clockAt : List ℕ → Clock
 clockAt line = clockOf (theNumber 18446744073709551615 (itemOf (ascii "now") line))
 
+-- a number up to a limit of its own
+abbrev pub placeOf : Number → Place
+placeOf (Given n) = record { ok = true; value = n }
+placeOf NoNumber = record { ok = false; value = 0 }
+
+unfoldable pub placeAt : ℕ → List ℕ → List ℕ → Place
+placeAt most key line = placeOf (theNumber most (itemOf key line))
+
+-- the host's list has seventeen records: up to 17 of them are lent, and their places are 0 to 16
 unfoldable pub numbersAt : List ℕ → Numbers
 numbersAt line = record {
   clock = clockAt line;
@@ -57,6 +67,9 @@ numbersAt line = record {
   place = wordAt (ascii "place") line;
   next = wordAt (ascii "next_session") line;
   relocks = wordAt (ascii "relocks") line;
+  turns = wordAt (ascii "turns") line;
+  length = placeAt 17 (ascii "length") line;
+  slot = placeAt 16 (ascii "place") line;
 }
 
 -- ---- yes or no

@@ -30,6 +30,12 @@ pub struct Clock {
     pub value: u64,
 }
 
+// A length or a place of the host's list, up to the most that it may be.
+pub struct Place {
+    pub ok: bool,
+    pub value: usize,
+}
+
 // yes or no.
 pub struct Switch {
     pub ok: bool,
@@ -53,6 +59,7 @@ pub struct SettingsItem {
     pub settings: Settings,
 }
 
+// `slot` is the place of a record in the host's list, which stands behind the same key as `place`.
 pub struct Numbers {
     pub clock: Clock,
     pub session: Word,
@@ -61,6 +68,9 @@ pub struct Numbers {
     pub place: Word,
     pub next: Word,
     pub relocks: Word,
+    pub turns: Word,
+    pub length: Place,
+    pub slot: Place,
 }
 
 pub struct Switches {

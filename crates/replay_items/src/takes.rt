@@ -56,7 +56,7 @@ fn class_items(i: Items) -> usize
 }
 
 // Of each key of the table, in its order, whether its items are there and of their form.
-fn right(i: Items) -> [bool; 25]
+fn right(i: Items) -> [bool; 28]
     ensures { λ r. ⌜ r ≡ rightOf i ⌝ }
 {
     let h = i.has;
@@ -79,6 +79,9 @@ fn right(i: Items) -> [bool; 25]
         n.place.ok,
         n.next.ok,
         n.relocks.ok,
+        n.turns.ok,
+        n.length.ok,
+        n.slot.ok,
         s.unlocked.ok,
         s.enabled.ok,
         s.on.ok,
@@ -94,13 +97,16 @@ fn right(i: Items) -> [bool; 25]
 }
 
 // And how many they are.
-fn many(i: Items) -> [usize; 25]
+fn many(i: Items) -> [usize; 28]
     ensures { λ r. ⌜ r ≡ manyOf i ⌝ }
 {
     let class = class_items(i);
     let methods = i.methods.count;
     let frames = i.frames.count;
     [
+        1,
+        1,
+        1,
         1,
         1,
         1,

@@ -3,6 +3,7 @@ use crate::ClassItem;
 use crate::Clock;
 use crate::FrameItem;
 use crate::Numbers;
+use crate::Place;
 use crate::SettingsItem;
 use crate::Small;
 use crate::Switch;
@@ -17,7 +18,7 @@ use replay_script::Flag;
 use replay_script::Number;
 use state::Settings;
 ghost use mathlib.Core.Path.{_≡_};
-ghost use Rattle.replay_items.specs.Values.{smallAt, wordAt, clockAt, switchAt, classAt, frameWith, frameAt, settingsAt, numbersAt, switchesAt};
+ghost use Rattle.replay_items.specs.Values.{smallAt, wordAt, clockAt, placeAt, switchAt, classAt, frameWith, frameAt, settingsAt, numbersAt, switchesAt};
 
 fn small(line: &[u8], key: &[u8]) -> Small
     ensures { λ r. ⌜ r ≡ smallAt (now (key .entry)) (now (line .entry)) ⌝ }
@@ -60,6 +61,21 @@ fn clock(line: &[u8]) -> Clock
         };
     };
     Clock { ok: true, value: n }
+}
+
+fn up_to(line: &[u8], key: &[u8], most: u64) -> Place
+    ensures { λ r. ⌜ r ≡ placeAt most (now (key .entry)) (now (line .entry)) ⌝ }
+{
+    let Number::Given(n) = replay_script::values::number_of(line, key, most) else {
+        return Place {
+            ok: false,
+            value: 0,
+        };
+    };
+    Place {
+        ok: true,
+        value: n as usize,
+    }
 }
 
 fn switch(line: &[u8], key: &[u8]) -> Switch
@@ -172,6 +188,9 @@ pub fn numbers(line: &[u8]) -> Numbers
     let place = word(line, b"place");
     let next = word(line, b"next_session");
     let relocks = word(line, b"relocks");
+    let turns = word(line, b"turns");
+    let length = up_to(line, b"length", 17);
+    let slot = up_to(line, b"place", 16);
     Numbers {
         clock: at,
         session,
@@ -180,6 +199,9 @@ pub fn numbers(line: &[u8]) -> Numbers
         place,
         next,
         relocks,
+        turns,
+        length,
+        slot,
     }
 }
 

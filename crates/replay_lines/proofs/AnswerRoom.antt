@@ -14,7 +14,7 @@ use denote.Struct.Field.{Field}
 use borrow.Author.Needs.{needs}
 use Rattle.ascii.specs.Ascii.{ascii}
 use Rattle.state.specs.declared.Answer.{Answer}
-use Rattle.state.specs.declared.Answer.the-variants.{Done, Yes, No, Nothing, Count, Number, Reason, Session, Taken, UnknownMethod, CarNotIdentified, CoolingDown, OtherPhoneSession, MethodUnavailable, MethodNotAvailableNow, NoRandomSource, NoSession, NotCodeEntry, WrongCode, NoDevLock, NotNeeded, Logging, BusAsleep, Busy, NoAttemptsLeft, Invalid, IdTooLong, RandomSpent, NotText, ListFull, Malformed, TooLarge, BadFrame, BadSettings, CarTwice, NoSave}
+use Rattle.state.specs.declared.Answer.the-variants.{Done, Yes, No, Nothing, Count, Number, Reason, Session, Taken, UnknownMethod, CarNotIdentified, CoolingDown, OtherPhoneSession, MethodUnavailable, MethodNotAvailableNow, NoRandomSource, NoSession, NotCodeEntry, WrongCode, NoDevLock, NotNeeded, Logging, BusAsleep, Busy, NoAttemptsLeft, Invalid, IdTooLong, RandomSpent, NotText, ListFull, Malformed, TooLarge, BadFrame, BadSettings, BadBus, QueueFull, CarTwice, NoSave}
 use Rattle.state.specs.Running.{pastMethods}
 use Rattle.state.specs.declared.Method.{Method}
 use Rattle.state.specs.declared.SessionReply.{SessionReply}
@@ -101,6 +101,8 @@ shown-in Malformed vs h = (lit≤ tt, tt)
 shown-in TooLarge vs h = (lit≤ tt, tt)
 shown-in BadFrame vs h = (lit≤ tt, tt)
 shown-in BadSettings vs h = (lit≤ tt, tt)
+shown-in BadBus vs h = (lit≤ tt, tt)
+shown-in QueueFull vs h = (lit≤ tt, tt)
 shown-in CarTwice vs h = (lit≤ tt, tt)
 shown-in NoSave vs h = (lit≤ tt, tt)
 

@@ -7,7 +7,7 @@ use lib.ListN.{getD}
 use Rattle.ascii.specs.Ascii.{ascii}
 use Rattle.state.specs.Answers.{number}
 use Rattle.state.specs.declared.Answer.{Answer}
-use Rattle.state.specs.declared.Answer.the-variants.{Done, Yes, No, Nothing, Count, Number, Reason, Session, Taken, UnknownMethod, CarNotIdentified, CoolingDown, OtherPhoneSession, MethodUnavailable, MethodNotAvailableNow, NoRandomSource, NoSession, NotCodeEntry, WrongCode, NoDevLock, NotNeeded, Logging, BusAsleep, Busy, NoAttemptsLeft, Invalid, IdTooLong, RandomSpent, NotText, ListFull, Malformed, TooLarge, BadFrame, BadSettings, CarTwice, NoSave}
+use Rattle.state.specs.declared.Answer.the-variants.{Done, Yes, No, Nothing, Count, Number, Reason, Session, Taken, UnknownMethod, CarNotIdentified, CoolingDown, OtherPhoneSession, MethodUnavailable, MethodNotAvailableNow, NoRandomSource, NoSession, NotCodeEntry, WrongCode, NoDevLock, NotNeeded, Logging, BusAsleep, Busy, NoAttemptsLeft, Invalid, IdTooLong, RandomSpent, NotText, ListFull, Malformed, TooLarge, BadFrame, BadSettings, BadBus, QueueFull, CarTwice, NoSave}
 use Rattle.state.specs.declared.Kind.{Kind}
 use Rattle.state.specs.declared.Kind.the-variants.{CodeEntry, InCarAction}
 use Rattle.state.specs.declared.SessionReply.{SessionReply}
@@ -54,6 +54,8 @@ shownAs Malformed = (ascii "22/Malformed", Blank)
 shownAs TooLarge = (ascii "23/TooLarge", Blank)
 shownAs BadFrame = (ascii "24/BadFrame", Blank)
 shownAs BadSettings = (ascii "25/BadSettings", Blank)
+shownAs BadBus = (ascii "26/BadBus", Blank)
+shownAs QueueFull = (ascii "27/QueueFull", Blank)
 shownAs CarTwice = (ascii "28/CarTwice", Blank)
 shownAs NoSave = (ascii "31/NoSave", Blank)
 

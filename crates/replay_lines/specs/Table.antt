@@ -69,6 +69,11 @@ keyNames =
     ∷ " save="
     ∷ " at="
     ∷ " record_bytes="
+    ∷ " turns="
+    ∷ " length="
+    ∷ " records="
+    ∷ " waiting="
+    ∷ " last_bus="
     ∷ []
 
 unfoldable pub wordNames : List String
@@ -102,6 +107,8 @@ wordNames =
     ∷ "23/TooLarge"
     ∷ "24/BadFrame"
     ∷ "25/BadSettings"
+    ∷ "26/BadBus"
+    ∷ "27/QueueFull"
     ∷ "28/CarTwice"
     ∷ "29/ManyCars"
     ∷ "30/ShortOutput"

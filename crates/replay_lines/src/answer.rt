@@ -65,8 +65,10 @@ pub fn shown_by(a: Answer) -> Shown
         Answer::TooLarge => Shown(26, Held::Blank),
         Answer::BadFrame => Shown(27, Held::Blank),
         Answer::BadSettings => Shown(28, Held::Blank),
-        Answer::CarTwice => Shown(29, Held::Blank),
-        Answer::NoSave => Shown(32, Held::Blank),
+        Answer::BadBus => Shown(29, Held::Blank),
+        Answer::QueueFull => Shown(30, Held::Blank),
+        Answer::CarTwice => Shown(31, Held::Blank),
+        Answer::NoSave => Shown(34, Held::Blank),
     }
 }
 

@@ -1,6 +1,6 @@
 // The keys of the fields, a row to a line, and the place of each.
 
-pub const KEYS: [u8; 643] = *b" answer=
+pub const KEYS: [u8; 691] = *b" answer=
  count=
  number=
  reason=
@@ -61,6 +61,11 @@ pub const KEYS: [u8; 643] = *b" answer=
  save=
  at=
  record_bytes=
+ turns=
+ length=
+ records=
+ waiting=
+ last_bus=
 ";
 
 pub const ANSWER: usize = 0;
@@ -184,3 +189,13 @@ pub const SAVE: usize = 58;
 pub const AT: usize = 59;
 
 pub const RECORD_BYTES: usize = 60;
+
+pub const TURNS: usize = 61;
+
+pub const LENGTH: usize = 62;
+
+pub const RECORDS: usize = 63;
+
+pub const WAITING: usize = 64;
+
+pub const LAST_BUS: usize = 65;

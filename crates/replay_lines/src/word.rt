@@ -1,7 +1,7 @@
 // The words that are values of fields, a row to a line. Document 01's refusal of number n stands at place n + 3, and behind them those of
 // document 02 by their numbers.
 
-pub const WORDS: [u8; 564] = *b"ok
+pub const WORDS: [u8; 587] = *b"ok
 yes
 no
 none
@@ -30,6 +30,8 @@ none
 23/TooLarge
 24/BadFrame
 25/BadSettings
+26/BadBus
+27/QueueFull
 28/CarTwice
 29/ManyCars
 30/ShortOutput
@@ -55,32 +57,32 @@ pub const NONE: usize = 3;
 
 pub const BAD_SETTINGS: usize = 28;
 
-pub const CODE: usize = 33;
+pub const CODE: usize = 35;
 
-pub const ACTION: usize = 34;
+pub const ACTION: usize = 36;
 
-pub const IN_PROGRESS: usize = 35;
+pub const IN_PROGRESS: usize = 37;
 
-pub const SUCCEEDED: usize = 36;
+pub const SUCCEEDED: usize = 38;
 
-pub const FAILED: usize = 37;
+pub const FAILED: usize = 39;
 
-pub const CANCELLED: usize = 38;
+pub const CANCELLED: usize = 40;
 
-pub const TIMED_OUT: usize = 39;
+pub const TIMED_OUT: usize = 41;
 
-pub const NOT_APPROVED: usize = 40;
+pub const NOT_APPROVED: usize = 42;
 
-pub const AWAITING_CAR: usize = 41;
+pub const AWAITING_CAR: usize = 43;
 
-pub const APPROVED: usize = 42;
+pub const APPROVED: usize = 44;
 
-pub const OTHER_CAR: usize = 43;
+pub const OTHER_CAR: usize = 45;
 
-pub const NOT_BONDED: usize = 44;
+pub const NOT_BONDED: usize = 46;
 
-pub const BONDED: usize = 45;
+pub const BONDED: usize = 47;
 
-pub const VALIDATED: usize = 46;
+pub const VALIDATED: usize = 48;
 
-pub const NEVER: usize = 47;
+pub const NEVER: usize = 49;

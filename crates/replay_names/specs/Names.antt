@@ -10,7 +10,8 @@ use Rattle.word_table.specs.Words.{linesOf, restOf, placeIn}
 
 -- A row to a name: the calls of the phones, from `new` on, and those of the bike, from `approve_can_read_write` on; the queries with a
 -- plain answer, from `is_can_read_only` on, and those with a longer one, from `can_read_write_approval` on; the lines that are no
--- calls, from `set_counters` on; the call that is lent memory. replay_calls/specs/Calls.antt has what each makes, in the same order.
+-- calls, from `set_counters` on; the call that is lent memory; the calls that are lent the host's list, from `send_can_frame` on, and the
+-- lines about that list. replay_calls/specs/Calls.antt has what each makes, in the same order.
 unfoldable pub table : List String
 table =
     "new settings methods"
@@ -80,11 +81,16 @@ table =
     ∷ "state"
     ∷ "convert_phone_validations record target output"
     ∷ "take_phone_validations_save output"
+    ∷ "send_can_frame frame class"
+    ∷ "serve_can_frames turns now"
+    ∷ "set_list length"
+    ∷ "set_record record_place frame class"
+    ∷ "lent_list"
     ∷ []
 
 -- What a row wants: one item of this key. But `peer` is a phone, which may be `none`; `frame` is frame_bus, kind, id, dlc and
 -- data; `class` is the class and, of a command, its owner; `settings` are the six of a new gate; `methods` and `frames` are any
--- number of items.
+-- number of items; `record_place` is a place in the host's list.
 unfoldable pub keyNames : List String
 keyNames =
     "phone"
@@ -101,6 +107,9 @@ keyNames =
     ∷ "place"
     ∷ "next_session"
     ∷ "relocks"
+    ∷ "turns"
+    ∷ "length"
+    ∷ "record_place"
     ∷ "unlocked"
     ∷ "enabled"
     ∷ "on"

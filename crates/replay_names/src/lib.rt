@@ -8,7 +8,7 @@ ghost use Rattle.word_table.specs.Words.{linesOf, restOf, placeIn};
 ghost use Rattle.replay_names.specs.Names as Names;
 ghost use Rattle.replay_names.specs.Names.{rows, keys, exactly, wanted};
 
-const ROWS: [u8; 1742] = *b"new settings methods
+const ROWS: [u8; 1858] = *b"new settings methods
 start_validation phone method now random
 submit_validation_code phone code now
 cancel_validation phone now
@@ -75,6 +75,11 @@ set_counters next_session relocks
 state
 convert_phone_validations record target output
 take_phone_validations_save output
+send_can_frame frame class
+serve_can_frames turns now
+set_list length
+set_record record_place frame class
+lent_list
 ";
 
 // The number of a name, or the number of rows.
@@ -88,10 +93,10 @@ pub fn name_of(word: &[u8]) -> usize
 pub fn is_name(name: usize) -> bool
     ensures { λ r. ⌜ r ≡ ltb name (length rows) ⌝ }
 {
-    name < 67
+    name < 72
 }
 
-const KEYS: [u8; 173] = *b"phone
+const KEYS: [u8; 199] = *b"phone
 method
 random
 code
@@ -105,6 +110,9 @@ number
 place
 next_session
 relocks
+turns
+length
+record_place
 unlocked
 enabled
 on
@@ -118,26 +126,26 @@ methods
 frames
 ";
 
-fn is_right(right: [bool; 25], k: usize) -> bool
+fn is_right(right: [bool; 28], k: usize) -> bool
     ensures { λ r. ⌜ r ≡ getD right k false ⌝ }
 {
-    if k < 25 {
+    if k < 28 {
         return right[k];
     }
     false
 }
 
-fn how_many(many: [usize; 25], k: usize) -> usize
+fn how_many(many: [usize; 28], k: usize) -> usize
     ensures { λ r. ⌜ r ≡ getD many k 0 ⌝ }
 {
-    if k < 25 {
+    if k < 28 {
         return many[k];
     }
     0
 }
 
 // Whether the items that a row's words behind its name say are right, and no other is there.
-fn has_all(row: &[u8], keys: &[u8], right: [bool; 25], many: [usize; 25], count: usize) -> bool
+fn has_all(row: &[u8], keys: &[u8], right: [bool; 28], many: [usize; 28], count: usize) -> bool
     ensures { λ r. ⌜ r ≡ exactly (linesOf 10 (now (keys .entry))) right many count (linesOf 32 (restOf (now (row .entry)))) ⌝ }
 {
     let mut left = count;
@@ -164,8 +172,8 @@ fn row_takes(
     rows: &[u8],
     keys: &[u8],
     name: usize,
-    right: [bool; 25],
-    many: [usize; 25],
+    right: [bool; 28],
+    many: [usize; 28],
     count: usize,
 ) -> bool
     ensures { λ r. ⌜ r ≡ wanted (linesOf 10 (now (rows .entry))) (linesOf 10 (now (keys .entry))) name right many count ⌝ }
@@ -176,7 +184,7 @@ fn row_takes(
     has_all(&rows[start..end], keys, right, many, count)
 }
 
-fn name_takes(name: usize, right: [bool; 25], many: [usize; 25], count: usize) -> bool
+fn name_takes(name: usize, right: [bool; 28], many: [usize; 28], count: usize) -> bool
     ensures { λ r. ⌜ r ≡ wanted rows keys name right many count ⌝ }
 {
     row_takes(&ROWS, &KEYS, name, right, many, count)
@@ -184,7 +192,7 @@ fn name_takes(name: usize, right: [bool; 25], many: [usize; 25], count: usize) -
 
 // Whether these are the items that a name wants: `right` says of each key whether its items are there and of their form, `many`
 // how many they are, `count` how many items there are at all.
-pub fn takes(name: usize, right: [bool; 25], many: [usize; 25], count: usize) -> bool
+pub fn takes(name: usize, right: [bool; 28], many: [usize; 28], count: usize) -> bool
     ensures { λ r. ⌜ r ≡ Names.takes name right many count ⌝ }
 {
     if is_name(name) {

@@ -7,7 +7,7 @@ use native.Mathlib.Omega.{arith}
 use lib.Dec.{eqb}
 use lib.ListN.{length, take, getD}
 use lib.Seq.{length-take-le}
-use Rattle.replay_calls.specs.Calls.{Line, call, counters, state, convert, unknown, lineOf}
+use Rattle.replay_calls.specs.Calls.{Line, call, lending, counters, convert, setList, setRecord, state, lentList, unknown, lineOf}
 use Rattle.replay_items.specs.Bytes.{Bytes, bytesOf}
 use Rattle.replay_items.specs.Items.{readOf}
 use Rattle.replay_items.specs.Takes.{takes}
@@ -15,8 +15,8 @@ use Rattle.replay_items.specs.declared.Items.{Items}
 use Rattle.replay_lines.specs.Page.{Page}
 use Rattle.replay_names.specs.Names.{rows}
 use Rattle.word_table.proofs.Laws.{before-le}
-use Rattle.replay_steps.specs.Turns.{Turn, laid, ran}
-use Rattle.replay_steps.specs.declared.Host.{Host}
+use Rattle.replay_given.specs.Turns.{Turn, laid, ran}
+use Rattle.replay_host.specs.declared.Host.{Host}
 use Rattle.word_table.specs.Words.{before, placeIn}
 use Rattle.replay_player.specs.Played.{begun, failed, ended, firstWord, playedAs, played, stated, withState, passedOver}
 
@@ -40,9 +40,13 @@ module _ (h : Host) (n : ℕ) (line : List ℕ) (p : Page) (name : ℕ) (i : Ite
 ran-host : (l : Line) (h : Host) (p q : Page) → ran l h p .host ≡ ran l h q .host
 unfolding laid
 ran-host (call c) h p q = refl
+ran-host (lending k) h p q = refl
 ran-host (counters next relocks) h p q = refl
-ran-host state h p q = refl
 ran-host (convert saved two out) h p q = refl
+ran-host (setList n) h p q = refl
+ran-host (setRecord place frame class owner) h p q = refl
+ran-host state h p q = refl
+ran-host lentList h p q = refl
 ran-host unknown h p q = refl
 
 played-by : (t : Bool) (l : Line) (name : ℕ) (h : Host) (n : ℕ) (w : List ℕ) (p q : Page)

@@ -26,10 +26,10 @@ use Rattle.replay_names.specs.Names as Names
 use Rattle.replay_names.specs.Names.{table, rows}
 use Rattle.replay_state.proofs.Room.{gate-in}
 use Rattle.replay_state.specs.Whole as Whole
-use Rattle.replay_steps.specs.Turns.{Turn, turnOf, ran, turnRoom, TurnFits}
-use Rattle.replay_steps.specs.declared.Host.{Host}
-use Rattle.replay_steps.specs.declared.Played.{Played}
-use Rattle.replay_steps.proofs.Played as Played
+use Rattle.replay_given.specs.Turns.{Turn, turnOf, ran, turnRoom, TurnFits}
+use Rattle.replay_host.specs.declared.Host.{Host}
+use Rattle.replay_given.specs.declared.Played.{Played}
+use Rattle.replay_given.proofs.Played as Played
 use Rattle.state.specs.declared.Gate.{Gate}
 use Rattle.word_table.specs.Words.{before, nameOf, placeIn}
 use Rattle.replay_player.specs.Played.{begun, errorOf, failed, ended, playedAs, played, stateLine, stated, withState, mostRead, playedRoom, PlayedFits, lineRoom, EveryLineFits, tooLong}

@@ -7,6 +7,8 @@ use lib.Dec.{eqb, ltb}
 use lib.ListN.{length, take, replicate}
 use Rattle.ascii.specs.Ascii.{ascii}
 use Rattle.definition.specs.Gate.{Call, newGateCall, step}
+use Rattle.replay_host.specs.Host.{firstHost}
+use Rattle.replay_host.specs.declared.Host.{Host}
 use Rattle.replay_items.specs.Bytes.{bytesOf}
 use Rattle.replay_items.specs.Items.{readOf}
 use Rattle.replay_items.specs.Takes.{takes}
@@ -17,8 +19,7 @@ use Rattle.replay_names.specs.Names.{rows}
 use Rattle.state.specs.Running.{noMethod}
 use Rattle.state.specs.declared.Gate.{Gate}
 use Rattle.replay_calls.specs.Calls.{lineOf}
-use Rattle.replay_steps.specs.Turns.{Turn, ran, turnRoom}
-use Rattle.replay_steps.specs.declared.Host.{Host}
+use Rattle.replay_given.specs.Turns.{Turn, ran, turnRoom}
 use Rattle.word_table.specs.Words.{before, placeIn}
 
 -- ---- every line
@@ -100,4 +101,4 @@ abbrev pub badNew : Call
 badNew = newGateCall (record { digits = 0; tries = 0; session = 0; cooldown = 0; keep = 0; bonded = 0 }) (replicate 8 noMethod) 0
 
 abbrev pub FromBadNew : Host → Type 0
-FromBadNew r = (g : Gate) → r .gate ≡ step g badNew .gate
+FromBadNew r = (g : Gate) → r ≡ firstHost (step g badNew .gate)

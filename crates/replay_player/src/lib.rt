@@ -1,9 +1,9 @@
 // Plays one line of a script on the host's gate: reads it, makes its call and lays down what it gives. That is `played` of
 // specs/Played.antt, which speaks of the calls by the gate's one definition, `step`.
+use replay_given::Played;
+use replay_host::Host;
 use replay_items::Ends;
 use replay_items::Items;
-use replay_steps::Host;
-use replay_steps::Played;
 use state::Gate;
 use state::Settings;
 ghost use mathlib.Core.Path.{_≡_};
@@ -14,7 +14,7 @@ ghost use Rattle.replay_items.specs.Bytes.{lentBytes, bytesOf, joined};
 ghost use Rattle.replay_lines.specs.Lent.{mostLent};
 ghost use Rattle.replay_lines.specs.Page.{page, text};
 ghost use Rattle.replay_calls.specs.Calls.{lineOf};
-ghost use Rattle.replay_steps.specs.Turns.{turnOf, ran, TurnFits};
+ghost use Rattle.replay_given.specs.Turns.{turnOf, ran, TurnFits};
 ghost use Rattle.replay_player.specs.Played.{begun, errorOf, failed, ended, played, stateLine, withState, PlayedFits, mostRead, EveryLineFits, FromBadNew, passedOver, tooLong};
 
 // line=N call=WORD
@@ -63,7 +63,7 @@ fn play_error(h: Host, number: u64, name: usize, out: &mut [u8]) -> Played
     let k = replay_lines::put_item(out, 0, b"line=", number);
     let k = put_error(out, k, name);
     let k = replay_lines::put_text(out, k, b"\n");
-    replay_steps::not_called(h, k)
+    replay_given::not_called(h, k)
 }
 
 fn play_line(h: Host, number: u64, line: &[u8], room: &mut [u8], out: &mut [u8]) -> Played
@@ -112,7 +112,7 @@ pub fn play(
     r
 }
 
-// What the host holds before the first `new`: the gate that 25 hands back.
+// What the host holds before the first `new`: the gate that 25 hands back, and a list of records that were never set.
 pub fn first_host() -> Host
     ensures { λ r. ⌜ FromBadNew r ⌝ }
 {
@@ -128,7 +128,7 @@ pub fn first_host() -> Host
     let list = [none; 8];
     let made = gate_sessions::new_gate(settings, list, 0);
     let gate = made.gate;
-    Host { gate }
+    replay_host::first_host(gate)
 }
 
 // Whether a line is passed over: it is empty or begins with `#`.

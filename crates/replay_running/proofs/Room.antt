@@ -18,6 +18,7 @@ use Rattle.frames.specs.declared.ProbeFrame.{ProbeFrame}
 use Rattle.frames.proofs.ProbeFrame as ProbeFrame
 use Rattle.state.specs.Running.{codeInProgress}
 use Rattle.state.specs.declared.Gate.{Gate}
+use Rattle.state.specs.declared.Methods.{Methods}
 use Rattle.state.specs.declared.Probe.{Probe}
 use Rattle.state.specs.declared.Session.{Session}
 use Rattle.state.specs.declared.Window.{Window}
@@ -33,11 +34,11 @@ use Rattle.replay_running.specs.Session.{code, whose, stands, sessionOrN
 
 -- ---- the session
 
-code-in : (g : Gate) → length (g .code) ≤ 9 → Within 24 (code g)
+code-in : (m : Methods) (s : Session) (kept : List ℕ) (n : ℕ) → length kept ≤ 9 → Within 24 (code m s kept n)
 unfolding code
-code-in g h =
-    either (codeInProgress (g .core .methods) (g .core .validation .session))
-    (text-in (ascii " code=") ⊕ digits-in (g .code) (g .core .settings .digits) h)
+code-in m s kept n h =
+    either (codeInProgress m s)
+    (text-in (ascii " code=") ⊕ digits-in kept n h)
     (upto 24 (lit≤ tt) (word-in (ascii " code=") (ascii "-") 1 (lit≤ tt)))
 
 whose-in : (s : Session) (vs : List Val) → Owned Session.the-field s vs → Within 128 (whose s)
@@ -56,11 +57,11 @@ pub session-in : (g : Gate) (vs : List Val) → Owned Session.the-field (g .core
 unfolding sessionOrNone
 session-in g vs h c =
     let s = g .core .validation .session in
-    either (s .present) (whose-in s vs h ⊕ stands-in s vs h ⊕ code-in g c) (upto 308 (lit≤ tt) (word-in (ascii " session=") (ascii "none") 4 (lit≤ tt)))
+    either (s .present) (whose-in s vs h ⊕ stands-in s vs h ⊕ code-in (g .core .methods) s (g .code) (g .core .settings .digits) c) (upto 308 (lit≤ tt) (word-in (ascii " session=") (ascii "none") 4 (lit≤ tt)))
 
 -- ---- the probe
 
-id-text-in : (i : Id) → Within 12 (idText i)
+pub id-text-in : (i : Id) → Within 12 (idText i)
 id-text-in (Standard n) = text-in (ascii "std/") ⊕ hexadecimal-in n
 id-text-in (Extended n) = text-in (ascii "ext/") ⊕ hexadecimal-in n
 

@@ -15,7 +15,7 @@ ghost use Rattle.replay_lines.specs.Table.{keys};
 ghost use Rattle.replay_running.specs.Probe.{idText, frame, frameAt, framesTo, sentAt, sentTo, window, mark, marks, probe};
 
 // KIND/ID
-fn put_id(out: &mut [u8], at: usize, id: Id) -> usize
+pub fn put_id(out: &mut [u8], at: usize, id: Id) -> usize
     ensures { λ r. ⌜ page (now (out .exit)) r ≡ idText id (page (now (out .entry)) at) ⌝ }
 {
     match id {

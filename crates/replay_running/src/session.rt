@@ -3,20 +3,17 @@ use replay_lines::fields::Field;
 use replay_lines::key;
 use replay_lines::word;
 use state::Gate;
+use state::Methods;
 use state::Session;
 ghost use mathlib.Core.Path.{_≡_};
 ghost use Rattle.replay_lines.specs.Page.{page};
 ghost use Rattle.replay_running.specs.Session.{code, whose, stands, sessionOrNone};
 
 // The code is kept while a code entry session is in progress.
-fn put_code(out: &mut [u8], at: usize, g: Gate) -> usize
-    ensures { λ r. ⌜ page (now (out .exit)) r ≡ code g (page (now (out .entry)) at) ⌝ }
+fn put_code(out: &mut [u8], at: usize, m: Methods, s: Session, digits: [u8; 9], n: usize) -> usize
+    ensures { λ r. ⌜ page (now (out .exit)) r ≡ code m s digits n (page (now (out .entry)) at) ⌝ }
 {
-    let m = g.core.methods;
-    let s = g.core.validation.session;
     if state::running::code_in_progress(m, s) {
-        let digits = g.code;
-        let n = g.core.settings.digits;
         return replay_lines::fields::put_field(out, at, &digits, Field::Digits(key::CODE, n));
     }
     replay_lines::fields::put_field(out, at, b"", Field::Digits(key::CODE, 0))
@@ -65,7 +62,9 @@ pub fn put_session_or_none(out: &mut [u8], at: usize, g: Gate) -> usize
     if s.present {
         let k = put_whose(out, at, s);
         let k = put_stands(out, k, s);
-        return put_code(out, k, g);
+        let m = g.core.methods;
+        let digits = g.code;
+        return put_code(out, k, m, s, digits, g.core.settings.digits);
     }
     replay_lines::fields::put_field(out, at, b"", Field::Word(key::SESSION, word::NONE))
 }

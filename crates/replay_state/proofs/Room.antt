@@ -20,6 +20,7 @@ use Rattle.state.specs.declared.Identity.{Identity}
 use Rattle.state.specs.declared.Methods.{Methods}
 use Rattle.state.specs.declared.Phones.{Phones}
 use Rattle.state.specs.declared.Policy.{Policy}
+use Rattle.state.specs.declared.Queue.{Queue}
 use Rattle.state.specs.declared.Save.{Save}
 use Rattle.state.specs.declared.Settings.{Settings}
 use Rattle.state.proofs.Access as Access
@@ -28,6 +29,7 @@ use Rattle.state.proofs.Gate as Gate
 use Rattle.state.proofs.Identity as Identity
 use Rattle.state.proofs.Phones as Phones
 use Rattle.state.proofs.Policy as Policy
+use Rattle.state.proofs.Queue as Queue
 use Rattle.state.proofs.Save as Save
 use Rattle.state.proofs.Settings as Settings
 use Rattle.state.proofs.Validation as Validation
@@ -36,7 +38,7 @@ use Rattle.replay_lines.proofs.AnswerRoom.{Owned, method-ids}
 use Rattle.replay_lines.proofs.Room.{_⊕_, upto, either, same, text-in, known-in, comma-in, item-in, flag-in, word-in, id-in, method-in}
 use Rattle.replay_lines.proofs.StoreRoom.{saved-in, lists-in}
 use Rattle.replay_running.proofs.Room.{session-in, probe-in}
-use Rattle.replay_state.specs.Whole.{settings, methodAt, methodsTo, identity, access, buses, policy, peer, front, save, gate}
+use Rattle.replay_state.specs.Whole.{settings, methodAt, methodsTo, identity, access, buses, policy, peer, front, save, queue, gate}
 
 settings-in : (s : Settings) (vs : List Val) → Owned Settings.the-field s vs → Within 186 (settings s)
 unfolding settings
@@ -95,13 +97,17 @@ save-in s vs h =
     either (s .present) (text-in (ascii " save=") ⊕ saved-in (s .stored) _ (h .1 .1 .0) ⊕ item-in (ascii " at=") (s .at) (omega arith))
     (upto 8746 (lit≤ tt) (word-in (ascii " save=") (ascii "none") 4 (lit≤ tt)))
 
-pub gate-in : (g : Gate) (vs : List Val) → Owned Gate.the-field g vs → Within 21520 (gate g)
+queue-in : (q : Queue) (vs : List Val) → Owned Queue.the-field q vs → Within 59 (queue q)
+unfolding queue
+queue-in q vs h = item-in (ascii " waiting=") (q .count) (omega arith) ⊕ item-in (ascii " last_bus=") (q .last) (omega arith)
+
+pub gate-in : (g : Gate) (vs : List Val) → Owned Gate.the-field g vs → Within 21579 (gate g)
 unfolding gate
 gate-in g vs h =
     let core = h .1 .1 .0 in
     let v = core .1 .1 .1 .1 .1 .1 .0 in
-    let code = le-of-eq (length-unmapped ℕ (g .code) 9 (h .1 .1 .1 .1 .1 .0 .1 .0 .1)) in
+    let code = le-of-eq (length-unmapped ℕ (g .code) 9 (h .1 .1 .1 .1 .1 .1 .0 .1 .0 .1)) in
     front-in (g .core) (g .phones) _ _ core (h .1 .1 .1 .0) ⊕ session-in g _ (v .1 .1 .0) code
     ⊕ item-in (ascii " cooldown_until=") (g .core .validation .«cooldown_until») (v .1 .1 .1 .0 .1) ⊕ item-in (ascii " next_session=") (g .core .validation .next) (omega (arith, v .1 .1 .1 .1 .0 .1))
     ⊕ item-in (ascii " tries_left=") (g .core .validation .tries) (omega (arith, v .1 .1 .1 .1 .1 .0 .1)) ⊕ probe-in (g .core .probe) _ (core .1 .1 .1 .1 .1 .1 .1 .0)
-    ⊕ save-in (g .save) _ (h .1 .1 .1 .1 .0)
+    ⊕ save-in (g .save) _ (h .1 .1 .1 .1 .0) ⊕ queue-in (g .queue) _ (h .1 .1 .1 .1 .1 .0)

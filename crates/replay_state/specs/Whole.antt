@@ -16,6 +16,7 @@ use Rattle.state.specs.declared.Identity.{Identity}
 use Rattle.state.specs.declared.Methods.{Methods}
 use Rattle.state.specs.declared.Phones.{Phones}
 use Rattle.state.specs.declared.Policy.{Policy}
+use Rattle.state.specs.declared.Queue.{Queue}
 use Rattle.state.specs.declared.Save.{Save}
 use Rattle.state.specs.declared.Settings.{Settings}
 use Rattle.replay_lines.specs.Cars.{lists}
@@ -77,8 +78,12 @@ save s p =
     (p ▸ text (ascii " save=") ▸ bytes (take (s .stored .len) (s .stored .bytes)) ▸ item (ascii " at=") (s .at))
     (p ▸ word (ascii " save=") (ascii "none"))
 
+-- how many frames wait, and the bus last served (W-204)
+unfoldable pub queue : Queue → Page → Page
+queue q p = p ▸ item (ascii " waiting=") (q .count) ▸ item (ascii " last_bus=") (q .last)
+
 unfoldable pub gate : Gate → Page → Page
 gate g p =
     p ▸ front (g .core) (g .phones) ▸ sessionOrNone g
     ▸ item (ascii " cooldown_until=") (g .core .validation .«cooldown_until») ▸ item (ascii " next_session=") (g .core .validation .next)
-    ▸ item (ascii " tries_left=") (g .core .validation .tries) ▸ probe (g .core .probe) ▸ save (g .save)
+    ▸ item (ascii " tries_left=") (g .core .validation .tries) ▸ probe (g .core .probe) ▸ save (g .save) ▸ queue (g .queue)

@@ -11,12 +11,13 @@ use state::Identity;
 use state::Methods;
 use state::Phones;
 use state::Policy;
+use state::Queue;
 use state::Save;
 use state::Settings;
 ghost use mathlib.Core.Path.{_≡_};
 ghost use Prim.Native.Nat.{_<_};
 ghost use Rattle.replay_lines.specs.Page.{page};
-ghost use Rattle.replay_state.specs.Whole.{settings, methodAt, methodsTo, identity, access, buses, policy, peer, front, save, gate};
+ghost use Rattle.replay_state.specs.Whole.{settings, methodAt, methodsTo, identity, access, buses, policy, peer, front, save, queue, gate};
 
 fn put_settings(out: &mut [u8], at: usize, s: Settings) -> usize
     ensures { λ r. ⌜ page (now (out .exit)) r ≡ settings s (page (now (out .entry)) at) ⌝ }
@@ -163,6 +164,18 @@ fn put_save(out: &mut [u8], at: usize, s: Save) -> usize
     replay_lines::fields::put_field(out, at, b"", Field::Word(key::SAVE, word::NONE))
 }
 
+fn put_queue(out: &mut [u8], at: usize, q: Queue) -> usize
+    ensures { λ r. ⌜ page (now (out .exit)) r ≡ queue q (page (now (out .entry)) at) ⌝ }
+{
+    let k = replay_lines::fields::put_field(
+        out,
+        at,
+        b"",
+        Field::Number(key::WAITING, q.count as u64),
+    );
+    replay_lines::fields::put_field(out, k, b"", Field::Number(key::LAST_BUS, q.last as u64))
+}
+
 pub fn put_gate(out: &mut [u8], at: usize, g: Gate) -> usize
     ensures { λ r. ⌜ page (now (out .exit)) r ≡ gate g (page (now (out .entry)) at) ⌝ }
 {
@@ -184,5 +197,7 @@ pub fn put_gate(out: &mut [u8], at: usize, g: Gate) -> usize
     let w = core.probe;
     let k = replay_running::probe::put_probe(out, k, w);
     let s = g.save;
-    put_save(out, k, s)
+    let k = put_save(out, k, s);
+    let q = g.queue;
+    put_queue(out, k, q)
 }

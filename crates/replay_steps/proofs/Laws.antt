@@ -10,6 +10,7 @@ use Rattle.answers.specs.Query.{Query, plain}
 use Rattle.definition.specs.Gate.{SaveCall, Lent, onSave, ask, saving, ofSave, asked, served, says, left, packed, gives, lentGiven, step}
 use Rattle.range.specs.Range.{inRange}
 use Rattle.replay_answers.specs.Query.{longRoom}
+use Rattle.replay_host.specs.declared.Host.{Host}
 use Rattle.replay_lines.specs.Lent.{mostLent}
 use Rattle.replay_lines.specs.Page.{Page}
 use Rattle.replay_lines.specs.Room.{Within}
@@ -25,8 +26,7 @@ use Rattle.state.specs.declared.Gate.{Gate}
 use Rattle.state.specs.declared.Outcome.{Outcome}
 use Rattle.state.proofs.Outcome as Outcome
 use Rattle.replay_queries.specs.Shown.{shown}
-use Rattle.replay_steps.specs.Turns.{laid, calm, calmRoom, turnRoom, TurnFits}
-use Rattle.replay_steps.specs.declared.Host.{Host}
+use Rattle.replay_given.specs.Turns.{laid, calm, calmRoom, turnRoom, TurnFits}
 
 pub laid-ask : (h : Host) (q : Query) (p : Page) → laid h (step (h .gate) (ask q)) p ≡ calm h (shown (step (h .gate) (ask q) .answer) p)
 unfolding laid step gives says left view nothingRaised noSignals

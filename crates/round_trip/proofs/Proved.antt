@@ -47,11 +47,11 @@ restores h bytes cs r e = rw (r, e)
 
 store-of : (g : Gate) → InRange g → storeInRange (g .phones .store) ≡ true
 unfolding inRange view
-store-of g r = (simp and-eq-true-iff at r) .0 .1
+store-of g r = (simp and-eq-true-iff at r) .0 .0 .1
 
 with-store : (h : Gate) (cs : List CarIds) → InRange h → CarsFit cs → InRange (doneWith h (storeOf cs) .gate)
 unfolding inRange view
-with-store h cs r f = let p = simp and-eq-true-iff at r in rw (p .0 .0 .0, p .0 .0 .1, store-in cs f, p .1)
+with-store h cs r f = let p = simp and-eq-true-iff at r in rw (p .0 .0 .0 .0, p .0 .0 .0 .1, store-in cs f, p .0 .1, p .1)
 
 -- ---- what was saved is restored
 

@@ -37,7 +37,7 @@ doneWith h s = record {
   answer = plain Done;
   signals = sending phoneAccessChanged noS;
   lent = nothing;
-  gate = record { core = h .core; phones = record { paired = h .phones .paired; store = s }; save = h .save; code = h .code };
+  gate = record { core = h .core; phones = record { paired = h .phones .paired; store = s }; save = h .save; queue = h .queue; code = h .code };
 }
 
 -- a store with something to save: one car or more, and no id that is empty under any; and what its type gives, car is a [u8; 32]

@@ -1,9 +1,9 @@
 -- Document 01's number and values of each answer.
-use mathlib.Core.Bool.{Bool}
+use mathlib.Core.Bool.{Bool, true, false}
 use Prim.Native.Nat.{ℕ}
 use Rattle.state.specs.declared.SessionReply.{SessionReply}
 use Rattle.state.specs.declared.Answer.{Answer}
-use Rattle.state.specs.declared.Answer.the-variants.{Done, Yes, No, Nothing, Count, Number, Reason, Session, Taken, UnknownMethod, CarNotIdentified, CoolingDown, OtherPhoneSession, MethodUnavailable, MethodNotAvailableNow, NoRandomSource, NoSession, NotCodeEntry, WrongCode, NoDevLock, NotNeeded, Logging, BusAsleep, Busy, NoAttemptsLeft, Invalid, IdTooLong, RandomSpent, NotText, ListFull, Malformed, TooLarge, BadFrame, BadSettings, CarTwice, NoSave}
+use Rattle.state.specs.declared.Answer.the-variants.{Done, Yes, No, Nothing, Count, Number, Reason, Session, Taken, UnknownMethod, CarNotIdentified, CoolingDown, OtherPhoneSession, MethodUnavailable, MethodNotAvailableNow, NoRandomSource, NoSession, NotCodeEntry, WrongCode, NoDevLock, NotNeeded, Logging, BusAsleep, Busy, NoAttemptsLeft, Invalid, IdTooLong, RandomSpent, NotText, ListFull, Malformed, TooLarge, BadFrame, BadSettings, BadBus, QueueFull, CarTwice, NoSave}
 
 -- 0 for one that is no refusal
 abbrev pub number : Answer → ℕ
@@ -41,6 +41,8 @@ number Malformed = 22
 number TooLarge = 23
 number BadFrame = 24
 number BadSettings = 25
+number BadBus = 26
+number QueueFull = 27
 number CarTwice = 28
 number NoSave = 31
 
@@ -86,8 +88,24 @@ values Malformed = noValue
 values TooLarge = noValue
 values BadFrame = noValue
 values BadSettings = noValue
+values BadBus = noValue
+values QueueFull = noValue
 values CarTwice = noValue
 values NoSave = noValue
+
+-- whether an answer is yes
+abbrev pub isYes : Values → Bool
+isYes noValue = false
+isYes done = false
+isYes yes = true
+isYes no = false
+isYes none = false
+isYes (count n) = false
+isYes (platform n) = false
+isYes (reason n) = false
+isYes (seconds n) = false
+isYes (session r) = false
+isYes (taken n end) = false
 
 pub record Numbered : Type 0 where
   pub number : ℕ

@@ -14,11 +14,11 @@ use Rattle.saved_record.specs.Store.{carsOf, storeOf}
 use Rattle.state.specs.declared.Core.{Core}
 use Rattle.state.specs.declared.Phones.{Phones}
 use Rattle.state.specs.declared.Save.{Save}
+use Rattle.state.specs.declared.Queue.{Queue}
 use Rattle.state.specs.declared.Gate.{Gate}
 use Rattle.state.specs.declared.Answer.{Answer}
 use Rattle.state.specs.declared.Raised.{Raised}
 use Rattle.state.specs.declared.Listed.{Listed}
-use Rattle.state.specs.Replies.{nothingRaised}
 
 -- ---- what is seen
 
@@ -34,6 +34,7 @@ pub record View : Type 0 where
   pub pairedFits : Bool
   pub storeFits : Bool
   pub save : Save
+  pub queue : Queue
   pub code : List ℕ
 
 -- ---- what is said of the lists
@@ -70,6 +71,7 @@ view g = record {
   pairedFits = listInRange (g .phones .paired);
   storeFits = storeInRange (g .phones .store);
   save = g .save;
+  queue = g .queue;
   code = g .code;
 }
 

@@ -4,6 +4,7 @@ pub mod parts;
 pub mod replies;
 pub mod running;
 
+use frames::CanFrame;
 use frames::ProbeFrame;
 use phones::PhoneList;
 use phones::ShortId;
@@ -126,7 +127,7 @@ pub struct Probe {
     pub marks: [u64; 4],
 }
 
-// Everything but the lists and the digits. `peer` is the connected phone, none exactly if its length is 0.
+// Everything but the lists, a save, the waiting frames and the digits. `peer` is the connected phone, none exactly if its length is 0.
 pub struct Core {
     pub settings: Settings,
     pub methods: Methods,
@@ -149,10 +150,17 @@ pub struct Save {
     pub present: bool,
 }
 
+// The frames that wait in the list that the host lends (W-204): how many of its records, and the bus last served.
+pub struct Queue {
+    pub count: usize,
+    pub last: u8,
+}
+
 pub struct Gate {
     pub core: Core,
     pub phones: Phones,
     pub save: Save,
+    pub queue: Queue,
     pub code: [u8; 9],
 }
 
@@ -203,6 +211,8 @@ pub enum Answer {
     TooLarge,
     BadFrame,
     BadSettings,
+    BadBus,
+    QueueFull,
     CarTwice,
     NoSave,
 }
@@ -296,4 +306,22 @@ pub struct Outcome {
     pub answer: Answer,
     pub signals: Signals,
     pub gate: Gate,
+}
+
+// A frame that a turn took, under its bus modulo 4, and whether allow let it pass.
+pub struct Decided {
+    pub frame: CanFrame,
+    pub allowed: bool,
+}
+
+// What a run of turns reports (W-204): how many it took, and for each in order the frame and yes or no; past them empty frames and no.
+pub struct Report {
+    pub turns: usize,
+    pub frames: [Decided; 16],
+}
+
+// What a run gives.
+pub struct Ran {
+    pub outcome: Outcome,
+    pub report: Report,
 }

@@ -12,6 +12,8 @@ use Rattle.phones.specs.Ids.{someOf, removeAll, retainIn, Left, stays, becomes,
 use Rattle.phones.specs.Phones.{idBytes, laid, listInRange}
 use Rattle.phones.proofs.Range.{id-range, range-all, range-retain, range-first, range-append}
 use Rattle.frames.specs.declared.ProbeFrame.{ProbeFrame}
+use Rattle.frames.specs.declared.CanFrame.{CanFrame}
+use Rattle.frames.specs.declared.TxClass.{TxClass}
 use Rattle.frames.specs.declared.TxClass.the-variants.{Platform, Command}
 use Rattle.saved_record.specs.declared.Store.{Store}
 use Rattle.saved_record.specs.SavedRecord.{CarIds, recordOf, encoded, hasCar, Reading, malformed, carTwice, tooLarge, ok, decoded}
@@ -279,6 +281,11 @@ module _ (c : Core) (h : Fitting c) where
   fit-passed Nothing = search
   fit-passed (At i) = search
 
+  pub fit-allow : (bus : ℕ) (frame : CanFrame) (class : TxClass) (validated : Bool) (clock : ℕ) → Holds SaidFits (Tx.allow c bus frame class validated clock)
+  unfolding leave Tx.allow Tx.allowPlatform Tx.throughWindow
+  fit-allow bus frame Platform validated clock = search (if-checked, if-cond, fit-passed)
+  fit-allow bus frame Command validated clock = search if-checked
+
 module _ (v : View) (h : Fitting (v .core)) where
   -- of what the range asks for, a call on the core may touch the peer and the probe; z tells which call it is
   untouched : {k : CoreCall} → Sized (onCore k) → isIn (inCore peer) (map inCore (coreTouches k)) ≡ false → isIn (inCore probe) (map inCore (coreTouches k)) ≡ false
@@ -291,7 +298,7 @@ module _ (v : View) (h : Fitting (v .core)) where
       search (b .settings, b .methods, b .count, b .validation, e, f)
 
   pub fit-said : (k : CoreCall) → Sized (onCore k) → Holds SaidFits (said (v .core) (v .lists) k)
-  unfolding said someOf leave quiet reply notified windowFits Pairing.setPeer Access.approve Access.revokeApproval Access.restoreApproval DevLock.setDevUnlocked DevLock.declareProduction CarIdentity.confirmPlatform CarIdentity.revokePlatform CarIdentity.confirmFingerprint CarIdentity.notePlatform Can.noteLogging Can.noteFdBus Methods.noteAvailable Methods.noteContinue Changes.policyChanged Changes.relocked Probe.closeProbe Probe.windowChanged Probe.heard heardAt Can.setReadOnly Tx.allow Tx.allowPlatform Tx.throughWindow
+  unfolding said someOf leave quiet reply notified windowFits Pairing.setPeer Access.approve Access.revokeApproval Access.restoreApproval DevLock.setDevUnlocked DevLock.declareProduction CarIdentity.confirmPlatform CarIdentity.revokePlatform CarIdentity.confirmFingerprint CarIdentity.notePlatform Can.noteLogging Can.noteFdBus Methods.noteAvailable Methods.noteContinue Changes.policyChanged Changes.relocked Probe.closeProbe Probe.windowChanged Probe.heard heardAt Can.setReadOnly
   fit-said (Gate.setBlePeer id) z = if-checked (leave (v .core)) _ _ (λ a. search) (λ u. let s = short-id id _ _ u in search (if-cond, id-range))
   fit-said Gate.approveCanReadWrite z = untouched z refl refl (search if-checked)
   fit-said Gate.revokeCanReadWriteApproval z = untouched z refl refl (search)
@@ -305,8 +312,7 @@ module _ (v : View) (h : Fitting (v .core)) where
   fit-said (Gate.setCanReadOnly false) z = search
   fit-said (Gate.openIdentityProbe bus frames count clock) z = fit-open (v .core) h bus frames count clock (z .probe bus frames count clock refl)
   fit-said Gate.closeIdentityProbe z = search if-cond
-  fit-said (Gate.allowCanTx bus frame Platform owner clock) z = search (if-checked, if-cond, fit-passed)
-  fit-said (Gate.allowCanTx bus frame Command owner clock) z = search if-checked
+  fit-said (Gate.allowCanTx bus frame class owner clock) z = fit-allow (v .core) h bus frame class _ clock
   fit-said (Gate.heardCanFrame bus clock) z = search if-cond
   fit-said (Gate.notePlatformId number) z = untouched z refl refl (search)
   fit-said (Gate.noteCanLogging on) z = untouched z refl refl (search)

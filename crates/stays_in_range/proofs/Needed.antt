@@ -1,7 +1,7 @@
 -- What `Sized` and `SizedGate` ask is needed: with fewer frames, methods or bytes than the array has, or with more bytes in a digest, a call
 -- makes a gate out of range.
-use mathlib.Core.Path.{_≡_, refl}
-use mathlib.Core.Bool.{true, false}
+use mathlib.Core.Path.{_≡_, refl, ap}
+use mathlib.Core.Bool.{Bool, true, false, _&&_}
 use mathlib.Core.List.{List, [], _∷_}
 use Prim.Native.Nat.{ℕ, _<_}
 use native.Mathlib.Omega.{arith}
@@ -41,7 +41,7 @@ method = record { id = record { bytes = []; len = 1 }; kind = CodeEntry; «needs
 
 -- what these gates compute through
 unfoldable opened : Unit {0}
-unfolding Range.within Range.settingsFit allOf Range.printable Range.methodFits Range.allFit Range.methodsIn Range.methodsFit Range.sessionFits Range.triesFit Range.windowFits Range.coreFits Range.saveFits Range.inRange Save.noSave view carInRange storeInRange carOf laidCar emptyCar carsOf storeOf hasCar twice someOf phonesOf idBytes idInRange idOf tooLong listOf joined idsIn listInRange padded Running.cleanMethod New.newMethods New.newCore New.madeCore Gate.says Gate.left Gate.gives Gate.step Gate.said Gate.saying Gate.served Replies.reply Replies.quiet Checks.checked Changes.policyChanged CarIdentity.confirmPlatform Policy.fingerprintConfirmed Policy.isFdBus Window.isAwake Window.isBusAwake Window.heardAt Window.probeNeeded Window.idsInRange Window.newWindow Probe.isValidProbe Probe.windowChanged Probe.openProbe Probe.heard
+unfolding Range.within Range.settingsFit allOf Range.printable Range.methodFits Range.allFit Range.methodsIn Range.methodsFit Range.sessionFits Range.triesFit Range.windowFits Range.coreFits Range.saveFits Range.queueFits Range.inRange Save.noSave view carInRange storeInRange carOf laidCar emptyCar carsOf storeOf hasCar twice someOf phonesOf idBytes idInRange idOf tooLong listOf joined idsIn listInRange padded Running.cleanMethod New.newMethods New.newCore New.madeCore Gate.says Gate.left Gate.gives Gate.step Gate.said Gate.saying Gate.served Replies.reply Replies.quiet Checks.checked Changes.policyChanged CarIdentity.confirmPlatform Policy.fingerprintConfirmed Policy.isFdBus Window.isAwake Window.isBusAwake Window.heardAt Window.probeNeeded Window.idsInRange Window.newWindow Probe.isValidProbe Probe.windowChanged Probe.openProbe Probe.heard
 opened = tt
 
 methods-needed : (g : Gate) → Range.inRange (view (after g (newGateCall leastSettings [] 1))) ≡ false
@@ -63,6 +63,7 @@ storing car = record {
   core = newCore leastSettings (newMethods [] 0);
   phones = record { paired = listOf []; store = storeOf (record { car = car; phones = (1 ∷ []) ∷ [] } ∷ []) };
   save = noSave;
+  queue = New.newQueue;
   code = noCode;
 }
 
@@ -75,4 +76,4 @@ too-long c h =
 
 digests-needed : (car : List ℕ) → 4358 < length car → (Range.inRange (view (storing car)) ≡ true) × (Range.inRange (view (after (storing car) (onSave openPhoneValidationsSave))) ≡ false)
 unfolding opened Gate.saving
-digests-needed car h = (refl, let c : CarIds = record { car = car; phones = (1 ∷ []) ∷ [] } in rw (car-of-laid c) (too-long c h))
+digests-needed car h = (refl, let c : CarIds = record { car = car; phones = (1 ∷ []) ∷ [] } in rw (car-of-laid c) (ap (λ (b : Bool). b && true) (too-long c h)))

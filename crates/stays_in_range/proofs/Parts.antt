@@ -25,7 +25,7 @@ use Rattle.state.specs.declared.Answer.{Answer}
 use Rattle.state.specs.Running.{inProgress}
 use Rattle.state.specs.Checks.{Check, _refuses_, checked, unmet}
 use Rattle.state.specs.View.{View, view, storeInRange}
-use Rattle.range.specs.Range.{within, settingsFit, methodsFit, triesFit, sessionFits, windowFits, coreFits, saveFits, inRange}
+use Rattle.range.specs.Range.{within, settingsFit, methodsFit, triesFit, sessionFits, windowFits, coreFits, saveFits, queueFits, inRange}
 use Rattle.probe_window.specs.Window.{newWindow}
 use Rattle.range.proofs.Laws.{within-is}
 use Rattle.definition.specs.Gate.{Says, left}
@@ -60,13 +60,14 @@ pub record Fits (g : Gate) : Type 0 where
   pub paired : listInRange (g .phones .paired) ≡ true
   pub store : storeInRange (g .phones .store) ≡ true
   pub save : saveFits (g .save) ≡ true
+  pub queue : queueFits (g .queue) ≡ true
   pub digests : Digests (carsOf (g .phones .store))
 
 pub fits : (g : Gate) → SizedGate g → InRange g → Fits g
 unfolding view inRange coreFits
 fits g z h =
     let p = simp and-eq-true-iff at h in
-    let c = p .0 .0 .0 in
+    let c = p .0 .0 .0 .0 in
     record {
       core = record {
         settings = c .0 .0 .0 .0 .0;
@@ -78,15 +79,16 @@ fits g z h =
         identified = z .identified;
         car = z .session;
       };
-      paired = p .0 .0 .1;
-      store = p .0 .1;
-      save = p .1;
+      paired = p .0 .0 .0 .1;
+      store = p .0 .0 .1;
+      save = p .0 .1;
+      queue = p .1;
       digests = digests-of (carsOf (g .phones .store)) (z .stored);
     }
 
 pub in-range : (g : Gate) → Fits g → InRange g × SizedGate g
 unfolding view inRange coreFits
-in-range g h = let c = h .core in (rw (c .settings, c .methods, c .peer, c .session, c .tries, c .window, h .paired, h .store, h .save), record { stored = of-digests (carsOf (g .phones .store)) (h .digests); identified = c .identified; session = c .car })
+in-range g h = let c = h .core in (rw (c .settings, c .methods, c .peer, c .session, c .tries, c .window, h .paired, h .store, h .save, h .queue), record { stored = of-digests (carsOf (g .phones .store)) (h .digests); identified = c .identified; session = c .car })
 
 -- ---- numbers and ids
 

@@ -21,16 +21,17 @@ use Rattle.state.specs.declared.Gate.{Gate}
 use Rattle.state.specs.declared.Said.{Said}
 use Rattle.state.specs.Running.{noMethod, cleanMethod}
 use Rattle.state.specs.View.{view}
-use Rattle.range.specs.Range.{within, methodFits, allFit, methodsIn, methodsFit, settingsFit, sessionFits, triesFit, windowFits, saveFits}
+use Rattle.range.specs.Range.{within, methodFits, allFit, methodsIn, methodsFit, settingsFit, sessionFits, triesFit, windowFits, saveFits, queueFits}
 use Rattle.range.proofs.Laws.{within-is}
 use Rattle.save.specs.Save.{noSave}
 use Rattle.new_gate.specs.New.{newMethods, newCore, leastSettings, Made, madeCore}
-use Rattle.definition.specs.Gate.{Call, newGateCall, Says, saying, ofCore, served, says, left, gives, step, after, afterAll}
+use Rattle.definition.specs.Gate.{Call, newGateCall, Says, saying, ofCore, served, queueing, says, left, gives, step, after, afterAll}
 use Rattle.definition.specs.Gate as Gate
 use Rattle.stays_in_range.specs.Stays.{IdsOf32, SizedMethods, Sized, AllSized, SizedGate, InRange, NewInRange, StaysInRange, AlwaysInRange}
 use Rattle.stays_in_range.proofs.Parts.{Fitting, Fits, fits, in-range, full-fits, Holds, cases}
 use Rattle.stays_in_range.proofs.Cars.{empty-store, empty-list}
 use Rattle.stays_in_range.proofs.Calls.{fit-listing, fit-saving, SaidFits, fit-start, fit-submit, fit-ended, fit-said}
+use Rattle.stays_in_range.proofs.Queue.{fit-sending, fit-serving}
 
 -- ---- the methods of a new gate
 
@@ -87,9 +88,9 @@ made-fits settings methods count z =
     (λ e. new-core-fits leastSettings (newMethods [] 0) refl refl)
 
 new-fits : (g : Gate) (settings : Settings) (methods : List Method) (count : ℕ) → SizedMethods methods → Fits (after g (newGateCall settings methods count))
-unfolding step gives left says saveFits noSave
+unfolding step gives left says saveFits queueFits within noSave
 new-fits g settings methods count z =
-    record { core = made-fits settings methods count z; paired = empty-list; store = empty-store; save = refl; digests = rw (cars-of-store []) tt }
+    record { core = made-fits settings methods count z; paired = empty-list; store = empty-store; save = refl; queue = refl; digests = rw (cars-of-store []) tt }
 
 pub new-in-range : NewInRange
 new-in-range g settings methods count z = in-range _ (new-fits g settings methods count z) .0
@@ -106,13 +107,15 @@ module _ (g : Gate) (r : InRange g) (h : Fits g) where
   core-in drawn o f = served-in _ (search h)
 
   stays-in : (k : Call) → Sized k → Fits (after g k)
-  unfolding step gives says view left
+  unfolding step gives says queueing view left
   stays-in (Gate.newGateCall settings methods count) z = new-fits g settings methods count (z .new settings methods count refl)
   stays-in (Gate.startValidation phone method clock random) z = core-in _ _ (fit-start (g .core) (h .core) phone method clock _ _)
   stays-in (Gate.submitValidationCode phone typed clock) z = served-in _ (fit-submit g h phone clock _ _ _ .holds)
   stays-in (Gate.onSession k) z = served-in _ (fit-ended g h _ k .holds)
   stays-in (Gate.onLists k) z = served-in _ (fit-listing g h k .holds)
   stays-in (Gate.onSave k) z = served-in _ (fit-saving g h k .holds)
+  stays-in (Gate.onQueue (Gate.sendCanFrame list frame class owner)) z = served-in _ (fit-sending g h list frame class owner .holds)
+  stays-in (Gate.onQueue (Gate.serveCanFrames list turns clock)) z = rw r (fit-serving g h list turns clock)
   stays-in (Gate.onCore k) z = core-in _ _ (fit-said (view g) (h .core) k z)
   stays-in (Gate.ask q) z = h
 

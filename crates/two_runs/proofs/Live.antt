@@ -41,8 +41,8 @@ use Rattle.answers.specs.Query as Query
 use Rattle.answers.specs.Query.{plain}
 use Rattle.new_gate.specs.New as New
 use Rattle.definition.specs.Gate as Gate
-use Rattle.definition.specs.Gate.{PackedReply, Call, newGateCall, startValidation, submitValidationCode, onSession, onLists, onSave, onCore, ask, Given, after}
-use Rattle.two_runs.specs.Demand.{blanked, hideGate, hideChallenge, hideSignals, hideReply, seen, run, codeRuns, Alike, starts, submits, news, sessionCalls, listCalls, saveCalls, coreCalls, asks, TwoRuns, end, next, judgedWrong, begins, Tally, parts, sessions, AlikeGates}
+use Rattle.definition.specs.Gate.{PackedReply, Call, newGateCall, startValidation, submitValidationCode, onSession, onLists, onSave, onQueue, onCore, ask, Given, after}
+use Rattle.two_runs.specs.Demand.{blanked, hideGate, hideChallenge, hideSignals, hideReply, seen, run, codeRuns, Alike, starts, submits, news, sessionCalls, listCalls, saveCalls, queueCalls, coreCalls, asks, TwoRuns, end, next, judgedWrong, begins, Tally, parts, sessions, AlikeGates}
 use Rattle.two_runs.specs.Refills as Refills
 use Rattle.two_runs.proofs.Digits.{same-length, same-past}
 
@@ -55,6 +55,7 @@ self g (submitValidationCode phone typed clock) = submits phone clock typed type
 self g (onSession k) = sessionCalls k
 self g (onLists k) = listCalls k
 self g (onSave k) = saveCalls k
+self g (onQueue k) = queueCalls k
 self g (onCore k) = coreCalls k
 self g (ask q) = asks q
 
@@ -86,6 +87,7 @@ ready = record {
   });
   phones = record { paired = listOf []; store = storeOf [] };
   save = Save.noSave;
+  queue = New.newQueue;
   code = Replies.noCode;
 }
 
@@ -181,7 +183,7 @@ pub record Examples : Type 0 where
   pub shared : answersOf (run ready two-phones) ≡ two-phones-answers
 
 pub examples : Examples
-unfolding padded sameBytes contains idBytes idInRange idOf idsIn joined listInRange listOf phonesOf someOf tooLong digits drawLimit drawn firstBelow group decode encode encodeAll Utf8.within isText right trim trimFront trimmed white Range.within Range.settingsFit allOf Range.printable Range.methodFits Range.allFit Range.methodsIn Range.methodsFit Running.methodAt Running.cleanMethod Running.inProgress Running.codeInProgress Range.triesFit Range.sessionFits Range.windowFits Range.coreFits Range.saveFits Range.inRange Save.noSave View.view View.carInRange View.storeInRange carsOf storeOf twice Store.phonesFor Replies.reply Replies.notified Replies.finish Policy.fingerprintConfirmed Policy.isIdentified Store.isFull Times.saturatingAdd Times.secondsTo Session.secondsOf Session.replyOf Session.endedAs Session.isOf Session.lostReadWrite Session.noteAt Session.cannotGoOn Session.lapseOf Session.placeFrom Session.placeOf checked Validation.endSession Validation.runsFor Validation.startChecks Validation.newSession Validation.begin Validation.startAt Validation.start Validation.refilled Validation.succeededCore Validation.succeed Validation.failedCore Validation.triedCore Validation.wrong Validation.rightCode Validation.judge Validation.submitted Validation.submit New.newMethods New.newCore Gate.saying Gate.served Gate.says Gate.left Gate.gives Gate.step begins judgedWrong blanked hideGate codeRuns Refills.refills Validation.cancel Gate.ended isDigit isSeparator beginsDigit isDropped ungroupedFrom ungrouped
+unfolding padded sameBytes contains idBytes idInRange idOf idsIn joined listInRange listOf phonesOf someOf tooLong digits drawLimit drawn firstBelow group decode encode encodeAll Utf8.within isText right trim trimFront trimmed white Range.within Range.settingsFit allOf Range.printable Range.methodFits Range.allFit Range.methodsIn Range.methodsFit Running.methodAt Running.cleanMethod Running.inProgress Running.codeInProgress Range.triesFit Range.sessionFits Range.windowFits Range.coreFits Range.saveFits Range.queueFits Range.inRange Save.noSave View.view View.carInRange View.storeInRange carsOf storeOf twice Store.phonesFor Replies.reply Replies.notified Replies.finish Policy.fingerprintConfirmed Policy.isIdentified Store.isFull Times.saturatingAdd Times.secondsTo Session.secondsOf Session.replyOf Session.endedAs Session.isOf Session.lostReadWrite Session.noteAt Session.cannotGoOn Session.lapseOf Session.placeFrom Session.placeOf checked Validation.endSession Validation.runsFor Validation.startChecks Validation.newSession Validation.begin Validation.startAt Validation.start Validation.refilled Validation.succeededCore Validation.succeed Validation.failedCore Validation.triedCore Validation.wrong Validation.rightCode Validation.judge Validation.submitted Validation.submit New.newMethods New.newCore Gate.saying Gate.served Gate.says Gate.left Gate.gives Gate.step begins judgedWrong blanked hideGate codeRuns Refills.refills Validation.cancel Gate.ended isDigit isSeparator beginsDigit isDropped ungroupedFrom ungrouped
 examples = record {
   two =
       next (starts phone method 1_000 random-1234 random-0007 (λ d. (refl, refl)))
@@ -235,6 +237,7 @@ isChallenge (Query.methods a) = false
 isChallenge (Query.challenge a) = true
 isChallenge (Query.saved a) = false
 isChallenge (Query.preview a paired store n) = false
+isChallenge (Query.report a r) = false
 
 -- any other reply is not hidden, and none is hidden as one of another kind
 any-other : (r : PackedReply) → (isChallenge r ≡ false → hideReply r ≡ r) × (isChallenge (hideReply r) ≡ isChallenge r)
@@ -249,6 +252,7 @@ any-other (Query.methods a) = (λ e. refl, refl)
 any-other (Query.challenge a) = (λ e. absurd (true≢false e), refl)
 any-other (Query.saved a) = (λ e. refl, refl)
 any-other (Query.preview a paired store n) = (λ e. refl, refl)
+any-other (Query.report a r) = (λ e. refl, refl)
 
 -- what two outcomes that look alike have in common
 pub record OnlyDigits (o p : Given) : Type 0 where
@@ -266,6 +270,7 @@ pub record OnlyDigits (o p : Given) : Type 0 where
   pub core : o .gate .core ≡ p .gate .core
   pub phones : o .gate .phones ≡ p .gate .phones
   pub save : o .gate .save ≡ p .gate .save
+  pub queue : o .gate .queue ≡ p .gate .queue
   pub long : length (o .gate .code) ≡ length (p .gate .code)
   pub past : drop (o .gate .core .settings .digits) (o .gate .code) ≡ drop (o .gate .core .settings .digits) (p .gate .code)
 
@@ -300,6 +305,7 @@ only-digits o p e =
       core = c;
       phones = λ i. e i .gate .phones;
       save = λ i. e i .gate .save;
+      queue = λ i. e i .gate .queue;
       long = same-length n (o .gate .code) (p .gate .code) b;
       past = same-past n (o .gate .code) (p .gate .code) b;
     }

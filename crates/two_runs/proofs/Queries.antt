@@ -16,7 +16,7 @@ use Rattle.two_runs.proofs.Digits.{blanked-shown}
 
 -- v with other digits
 abbrev pub recoded : View → List ℕ → View
-recoded v other = record { core = v .core; lists = v .lists; pairedFits = v .pairedFits; storeFits = v .storeFits; save = v .save; code = other }
+recoded v other = record { core = v .core; lists = v .lists; pairedFits = v .pairedFits; storeFits = v .storeFits; save = v .save; queue = v .queue; code = other }
 
 -- replies that look alike as they are returned
 abbrev pub SameReply : ReplyByIds → ReplyByIds → Type 0

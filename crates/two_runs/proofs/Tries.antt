@@ -17,14 +17,14 @@ use Rattle.state.specs.declared.Answer.the-variants.{BadSettings}
 use Rattle.state.specs.Running.{inProgress, codeInProgress}
 use Rattle.state.specs.View.{View, view}
 use Rattle.range.specs.Range.{settingsFit, methodsIn, inRange}
-use Rattle.answers.specs.Query.{plain, numberedReply}
+use Rattle.answers.specs.Query.{plain, ReplyByIds, numberedReply}
 use Rattle.new_gate.specs.New.{newCore, Made, madeCore}
 use Rattle.definition.specs.Gate as Gate
-use Rattle.definition.specs.Gate.{PackedReply, Call, Says, isLent, fullFor, saying, asked, served, says, laidReply, gives, step, after}
+use Rattle.definition.specs.Gate.{PackedReply, Call, Says, isLent, fullFor, saying, asked, served, queueing, says, laidReply, gives, step, after}
 use Rattle.footprint.proofs.Keeps.{either}
 use Rattle.two_runs.specs.Demand.{codeRuns, isRight, numberOf, judgedWrong, begins, Within, parts, sessions, Every, nil, both}
 use Rattle.two_runs.specs.Refills.{sessionRefills, submitRefills, refills, Refilled}
-use Rattle.two_runs.proofs.Turns.{triesLeft, tries-fit, turn-core, turn-session}
+use Rattle.two_runs.proofs.Turns.{triesLeft, tries-fit, turn-core, turn-session, turn-serving}
 use Rattle.two_runs.proofs.Sessions.{started, submitted-as}
 
 none-more : (x y : ℕ) → x ≤ y → 0 + x ≤ y
@@ -78,6 +78,15 @@ at-gate m g s worth z k = go (inRange (view g)) refl
     go true e = omega (arith, k e, at-most (inRange (view (Gate.left g s))) (m (s .core)))
     go false e = rw (z, e) (le-refl 0)
 
+-- the same of a call that judges no code, whatever it answers with 25
+left-gate : (m : Core → ℕ) (g : Gate) (a : ReplyByIds) (s : Says) → m (s .core) ≤ m (g .core) → 0 + leftBy m (Gate.left g (cond (inRange (view g)) s (asked (view g) a))) ≤ leftBy m g
+unfolding view Gate.left
+left-gate m g a s k = none-more _ _ (go (inRange (view g)) refl)
+  where
+    go : (b : Bool) → inRange (view g) ≡ b → leftBy m (Gate.left g (cond b s (asked (view g) a))) ≤ cond b (m (g .core)) 0
+    go true e = omega (arith, k, at-most (inRange (view (Gate.left g s))) (m (s .core)))
+    go false e = rw e (le-refl 0)
+
 served-in : (v : View) (s : Says) → inRange v ≡ true → served v s ≡ s
 unfolding served
 served-in v s f = ap (λ (b : Bool). cond b s (asked v (plain BadSettings))) f
@@ -107,12 +116,13 @@ start-last g (Gate.submitValidationCode phone typed clock) e = absurd (false≢t
 start-last g (Gate.onSession k) e = zero-le
 start-last g (Gate.onLists k) e = zero-le
 start-last g (Gate.onSave k) e = zero-le
+start-last g (Gate.onQueue k) e = zero-le
 start-last g (Gate.onCore k) e = zero-le
 start-last g (Gate.ask q) e = zero-le
 
 -- A call that begins no session: what it judges wrong, it takes from what the session has left.
 session-takes : (g : Gate) (c : Call) → begins c (step g c .answer) ≡ false → judgedWrong c (step g c .answer) + leftBy triesLeft (after g c) ≤ leftBy triesLeft g
-unfolding step gives says saying view Gate.left begins judgedWrong
+unfolding step gives says queueing saying view Gate.left begins judgedWrong
 session-takes g (Gate.newGateCall settings methods count) e =
     let c = madeCore settings methods count .core in
     let t : triesLeft c ≡ 0 = rw (new-none settings methods count) in
@@ -127,6 +137,10 @@ session-takes g (Gate.submitValidationCode phone typed clock) e =
 session-takes g (Gate.onSession k) e = at-gate triesLeft g _ (λ n. 0) refl (λ f. turn-session (g .core) _ k .paid)
 session-takes g (Gate.onLists k) e = at-gate triesLeft g _ (λ n. 0) refl (λ f. none-more _ _ (le-refl _))
 session-takes g (Gate.onSave k) e = at-gate triesLeft g _ (λ n. 0) refl (λ f. none-more _ _ (le-refl _))
+session-takes g (Gate.onQueue (Gate.sendCanFrame list frame class owner)) e = at-gate triesLeft g _ (λ n. 0) refl (λ f. none-more _ _ (le-refl _))
+session-takes g (Gate.onQueue (Gate.serveCanFrames list turns clock)) e =
+    let t = turn-serving (g .core) (view g .lists) (g .queue) list turns clock in
+    left-gate triesLeft g _ _ (rw (t .runs, t .validation) (le-refl _))
 session-takes g (Gate.onCore k) e = at-gate triesLeft g _ (λ n. 0) refl (λ f. turn-core (g .core) _ k .paid)
 session-takes g (Gate.ask q) e = none-more _ _ (le-refl _)
 
@@ -163,12 +177,13 @@ refill-last g (Gate.submitValidationCode phone typed clock) e = one-judged g _
 refill-last g (Gate.onSession k) e = zero-le
 refill-last g (Gate.onLists k) e = zero-le
 refill-last g (Gate.onSave k) e = zero-le
+refill-last g (Gate.onQueue k) e = zero-le
 refill-last g (Gate.onCore k) e = zero-le
 refill-last g (Gate.ask q) e = zero-le
 
 -- A call that does not refill: what it judges wrong, it takes from the gate's tries.
 gate-takes : (g : Gate) (c : Call) → refills c (step g c .answer) ≡ false → judgedWrong c (step g c .answer) + leftBy gateTries (after g c) ≤ leftBy gateTries g
-unfolding step gives says saying view Gate.left refills judgedWrong
+unfolding step gives says queueing saying view Gate.left refills judgedWrong
 gate-takes g (Gate.newGateCall settings methods count) e = absurd (false≢true (sym e))
 gate-takes g (Gate.startValidation phone method clock random) e =
     let d = drawn random (g .core .settings .digits) in
@@ -182,6 +197,9 @@ gate-takes g (Gate.onSession k) e =
     (λ f. turn-session (g .core) _ k .kept (sym (ap (λ (s : Says). sessionRefills k (numberedReply (laidReply (s .answer)) .values)) (served-in (view g) _ f)) ∙ e))
 gate-takes g (Gate.onLists k) e = at-gate gateTries g _ (λ n. 0) refl (λ f. none-more _ _ (le-refl _))
 gate-takes g (Gate.onSave k) e = at-gate gateTries g _ (λ n. 0) refl (λ f. none-more _ _ (le-refl _))
+gate-takes g (Gate.onQueue (Gate.sendCanFrame list frame class owner)) e = at-gate gateTries g _ (λ n. 0) refl (λ f. none-more _ _ (le-refl _))
+gate-takes g (Gate.onQueue (Gate.serveCanFrames list turns clock)) e =
+    left-gate gateTries g _ _ (rw (gateTries, turn-serving (g .core) (view g .lists) (g .queue) list turns clock .validation) (le-refl _))
 gate-takes g (Gate.onCore k) e = at-gate gateTries g _ (λ n. 0) refl (λ f. turn-core (g .core) _ k .kept refl)
 gate-takes g (Gate.ask q) e = none-more _ _ (le-refl _)
 

@@ -2,14 +2,17 @@
 -- costs one of the tries.
 use mathlib.Core.Path.{_≡_, refl}
 use mathlib.Core.Bool.{Bool, true, false, cond, true≢false, and-false, and-eq-true-iff}
+use mathlib.Core.List.{List}
 use Prim.Native.Nat.{ℕ, _+_, _≤_, zero-le}
 use native.Mathlib.Omega.{arith}
 use lib.Dec.{ltb}
+use Rattle.phones.specs.Ids.{someOf}
 use Rattle.state.specs.declared.Status.{Status}
 use Rattle.state.specs.declared.Status.the-variants.{Cancelled, TimedOut}
 use Rattle.state.specs.declared.Methods.{Methods}
 use Rattle.state.specs.declared.Session.{Session}
 use Rattle.state.specs.declared.Core.{Core}
+use Rattle.state.specs.declared.Queue.{Queue}
 use Rattle.state.specs.declared.Answer.{Answer}
 use Rattle.state.specs.declared.Answer.the-variants.{No}
 use Rattle.state.specs.declared.Raised.{Raised}
@@ -21,6 +24,8 @@ use Rattle.state.specs.Answers.{values}
 use Rattle.state.specs.Running.{isRunning, inProgress, codeInProgress, methodAt}
 use Rattle.state.specs.Replies.{nothingRaised, phoneAccessChanged, leave, reply, notified, finish}
 use Rattle.state.specs.View.{Lists, View}
+use Rattle.waiting_list.specs.declared.Waiting.{Waiting}
+use Rattle.can_queue.specs.Calls.{serving}
 use Rattle.range.proofs.Laws.{within-is}
 use Rattle.range.specs.Range.{coreFits, triesFit, inRange}
 use Rattle.session.specs.declared.Lapse.{Lapse}
@@ -31,6 +36,7 @@ use Rattle.definition.specs.Gate as Gate
 use Rattle.definition.specs.Gate.{SessionCall, CoreCall, ended, said}
 use Rattle.footprint.proofs.Keeps.{either, each-check}
 use Rattle.footprint.proofs.Core.{Beside, core-beside}
+use Rattle.footprint.proofs.Queue.{serving-keeps}
 use Rattle.two_runs.specs.Demand.{codeRuns}
 use Rattle.two_runs.specs.Refills.{sessionRefills}
 
@@ -70,7 +76,7 @@ pub record Turn (c : Core) (wrong : ℕ) (refills : Bool) (o : Said) : Type 0 wh
 
 pub tries-fit : (v : View) → inRange v ≡ true → (1 ≤ v .core .validation .tries) × (v .core .validation .tries ≤ v .core .settings .tries)
 unfolding inRange coreFits triesFit
-tries-fit v f = within-is _ _ _ ((simp and-eq-true-iff at f) .0 .0 .0 .0 .1)
+tries-fit v f = within-is _ _ _ ((simp and-eq-true-iff at f) .0 .0 .0 .0 .0 .1)
 
 -- ---- an operation that keeps the settings, the methods and the session
 
@@ -86,6 +92,20 @@ turn-beside c o b =
 
 pub turn-core : (c : Core) (l : Lists) (k : CoreCall) → Turn c 0 false (said c l k)
 turn-core c l k = turn-beside c (said c l k) (core-beside c l k)
+
+-- a run of turns keeps them too
+pub record Served (c d : Core) : Type 0 where
+  pub settings : d .settings ≡ c .settings
+  pub runs : codeRuns d ≡ codeRuns c
+  pub validation : d .validation ≡ c .validation
+
+pub turn-serving : (c : Core) (l : Lists) (q : Queue) (ws : List Waiting) (n clock : ℕ) → Served c (serving c l q ws n clock .core)
+unfolding codeRuns codeInProgress methodAt someOf
+turn-serving c l q ws n clock =
+    let e = serving-keeps c l q ws n clock in
+    let methods : serving c l q ws n clock .core .methods .list ≡ c .methods .list = λ i. e i .methods .list in
+    let validation : serving c l q ws n clock .core .validation ≡ c .validation = λ i. e i .validation in
+    record { settings = λ i. e i .settings; runs = rw (methods, validation); validation = validation }
 
 turn-reply : {f : Bool} (c : Core) (a : Answer) (r : Raised) → Turn c 0 f (reply c a r)
 unfolding reply

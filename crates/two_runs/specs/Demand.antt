@@ -19,7 +19,7 @@ use Rattle.text.specs.Text.{isText, right}
 use Rattle.validation.specs.Calls.{draws, tick}
 use Rattle.answers.specs.Query as Query
 use Rattle.answers.specs.Query.{Query, numberedReply}
-use Rattle.definition.specs.Gate.{PackedReply, SessionCall, ListCall, SaveCall, CoreCall, Call, newGateCall, startValidation, submitValidationCode, onSession, onLists, onSave, onCore, ask, Given, isLent, step, after}
+use Rattle.definition.specs.Gate.{PackedReply, SessionCall, ListCall, SaveCall, QueueCall, CoreCall, Call, newGateCall, startValidation, submitValidationCode, onSession, onLists, onSave, onQueue, onCore, ask, Given, isLent, step, after}
 
 -- ---- what is left out: the digits, and not their number
 
@@ -31,7 +31,7 @@ blanked (suc n) (b ∷ bs) = 0 ∷ blanked n bs
 
 -- the code length stands in the core, and is kept
 unfoldable pub hideGate : Gate → Gate
-hideGate g = record { core = g .core; phones = g .phones; save = g .save; code = blanked (g .core .settings .digits) (g .code) }
+hideGate g = record { core = g .core; phones = g .phones; save = g .save; queue = g .queue; code = blanked (g .core .settings .digits) (g .code) }
 
 unfoldable pub hideChallenge : Challenge → Challenge
 hideChallenge c = record { running = c .running; session = c .session; method = c .method; length = c .length; code = blanked (c .length) (c .code) }
@@ -58,6 +58,7 @@ hideReply (Query.methods a) = Query.methods a
 hideReply (Query.challenge a) = Query.challenge (record { answer = a .answer; challenge = hideChallenge (a .challenge) })
 hideReply (Query.saved a) = Query.saved a
 hideReply (Query.preview a paired store n) = Query.preview a paired store n
+hideReply (Query.report a r) = Query.report a r
 
 -- a call's whole outcome without the digits; lent memory is compared whole
 unfoldable pub seen : Given → Given
@@ -106,6 +107,7 @@ pub data Alike (g h : Gate) : Call → Call → Type 0 where
   sessionCalls : (k : SessionCall) → Alike g h (onSession k) (onSession k)
   listCalls : (k : ListCall) → Alike g h (onLists k) (onLists k)
   saveCalls : (k : SaveCall) → Alike g h (onSave k) (onSave k)
+  queueCalls : (k : QueueCall) → Alike g h (onQueue k) (onQueue k)
   coreCalls : (k : CoreCall) → Alike g h (onCore k) (onCore k)
   asks : (q : Query) → Alike g h (ask q) (ask q)
 
@@ -128,6 +130,7 @@ judgedWrong (submitValidationCode phone typed clock) a = cond (eqb (numberOf a) 
 judgedWrong (onSession k) a = 0
 judgedWrong (onLists k) a = 0
 judgedWrong (onSave k) a = 0
+judgedWrong (onQueue k) a = 0
 judgedWrong (onCore k) a = 0
 judgedWrong (ask q) a = 0
 
@@ -139,6 +142,7 @@ begins (submitValidationCode phone typed clock) a = false
 begins (onSession k) a = false
 begins (onLists k) a = false
 begins (onSave k) a = false
+begins (onQueue k) a = false
 begins (onCore k) a = false
 begins (ask q) a = false
 

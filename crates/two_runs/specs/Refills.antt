@@ -7,9 +7,9 @@ use lib.Dec.{eqb}
 use Rattle.state.specs.declared.Status.{Status}
 use Rattle.state.specs.declared.Status.the-variants.{InProgress, Succeeded, Failed, Cancelled, TimedOut}
 use Rattle.state.specs.declared.Gate.{Gate}
-use Rattle.state.specs.Answers.{Values, noValue, done, yes, no, none, count, platform, reason, seconds, session, taken}
+use Rattle.state.specs.Answers.{Values, noValue, done, yes, no, none, count, platform, reason, seconds, session, taken, isYes}
 use Rattle.answers.specs.Query.{numberedReply}
-use Rattle.definition.specs.Gate.{PackedReply, SessionCall, cancelValidation, completeValidationAction, tickValidation, Call, newGateCall, startValidation, submitValidationCode, onSession, onLists, onSave, onCore, ask}
+use Rattle.definition.specs.Gate.{PackedReply, SessionCall, cancelValidation, completeValidationAction, tickValidation, Call, newGateCall, startValidation, submitValidationCode, onSession, onLists, onSave, onQueue, onCore, ask}
 use Rattle.two_runs.specs.Demand.{numberOf, Tally, Within, Every, parts}
 
 -- ---- the calls that refill: New gate, and a session's end as Succeeded or as Failed
@@ -35,19 +35,6 @@ showsFailed (seconds n) = false
 showsFailed (session r) = isFailed (r .status)
 showsFailed (taken n end) = false
 
-abbrev pub isYes : Values → Bool
-isYes noValue = false
-isYes done = false
-isYes yes = true
-isYes no = false
-isYes none = false
-isYes (count n) = false
-isYes (platform n) = false
-isYes (reason n) = false
-isYes (seconds n) = false
-isYes (session r) = false
-isYes (taken n end) = false
-
 -- a submit that is not refused, or is answered 10 with Failed
 abbrev pub submitRefills : ℕ → Values → Bool
 submitRefills number v = eqb number 0 || eqb number 10 && showsFailed v
@@ -65,6 +52,7 @@ refills (submitValidationCode phone typed clock) a = submitRefills (numberOf a) 
 refills (onSession k) a = sessionRefills k (numberedReply a .values)
 refills (onLists k) a = false
 refills (onSave k) a = false
+refills (onQueue k) a = false
 refills (onCore k) a = false
 refills (ask q) a = false
 

@@ -16,6 +16,7 @@ mod saves;
 mod sessions;
 mod single;
 mod texts;
+mod waiting;
 mod windows;
 
 use crate::answer::Reply;

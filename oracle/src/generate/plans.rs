@@ -7,7 +7,7 @@ use crate::items::MethodKind;
 impl Generator {
     /// One plan, or a few calls of any kind.
     pub(super) fn plan(&mut self) {
-        match self.random.below(117) {
+        match self.random.below(123) {
             0..=8 => self.make_ready(),
             9..=35 => self.code_session(),
             36..=46 => self.action_session(),
@@ -25,6 +25,7 @@ impl Generator {
             94..=99 => self.conversions(),
             100..=105 => self.saves(),
             106..=110 => self.previews(),
+            111..=116 => self.waiting_frames(),
             _ => {
                 for _ in 0..1 + self.random.below(8) {
                     self.any_call();

@@ -13,9 +13,13 @@ pub fn filler(n: u8) -> Bytes {
     vec![0xF0, n]
 }
 
+pub fn longest() -> Bytes {
+    LONGEST.to_vec()
+}
+
 /// The longest id that is accepted, with one byte more.
-fn too_long() -> Bytes {
-    let mut id = LONGEST.to_vec();
+pub fn too_long() -> Bytes {
+    let mut id = longest();
     id.push(0);
     id
 }
@@ -24,7 +28,7 @@ impl Generator {
     pub(super) fn phone(&mut self) -> Bytes {
         match self.random.below(24) {
             0 => Vec::new(),
-            1 => LONGEST.to_vec(),
+            1 => longest(),
             2 => too_long(),
             3 => vec![0x77; 33],
             4 => vec![0xA1, 0],

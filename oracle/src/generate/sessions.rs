@@ -324,6 +324,7 @@ impl Generator {
                 Call::PhoneAccess { now: kept },
                 Call::Challenge {},
                 Call::Encode {},
+                Call::Peer {},
                 command,
             ]);
             self.emit(query);

@@ -8,7 +8,7 @@ use core_interface::oracle::{can_probe, validation};
 impl Generator {
     /// A call of any kind. Calls that undo much are rare.
     pub(super) fn any_call(&mut self) {
-        let call = match self.random.below(100) {
+        let call = match self.random.below(107) {
             0..=18 => self.query(),
             19..=20 => self.preview(),
             21 => Call::OpenSave {},
@@ -65,7 +65,12 @@ impl Generator {
                 on: self.random.chance(1, 3),
             },
             97 => self.note_platform(),
-            _ => self.rare_call(),
+            98..=99 => self.rare_call(),
+            100..=102 => self.frame_to_send().into_send(),
+            103 => self.serve(),
+            104 => self.set_record(),
+            105 => self.set_list(),
+            _ => Call::LentList {},
         };
         self.emit(call);
     }

@@ -7,8 +7,16 @@ use crate::items::{Class, ProbeFrame};
 use core_interface::oracle::can_probe;
 
 impl Generator {
-    /// The platform is known and the car is not: windows are opened, used and closed.
+    /// Windows are opened, used and closed.
     pub(super) fn probe_windows(&mut self) {
+        self.ready_for_probe();
+        for _ in 0..1 + self.random.below(4) {
+            self.one_window();
+        }
+    }
+
+    /// Mostly the platform is known and the car is not.
+    pub(super) fn ready_for_probe(&mut self) {
         if core_interface::is_car_fingerprint_confirmed() {
             self.emit(Call::RevokePlatform {});
         }
@@ -18,12 +26,10 @@ impl Generator {
         if core_interface::is_can_logging() && self.random.chance(4, 5) {
             self.emit(Call::NoteLogging { on: false });
         }
-        for _ in 0..1 + self.random.below(4) {
-            self.one_window();
-        }
     }
 
-    pub(super) fn one_window(&mut self) {
+    /// Mostly a window on the bus that is returned.
+    pub(super) fn open_window(&mut self) -> u8 {
         if can_probe::window().is_some() && self.random.chance(4, 5) {
             self.emit(Call::CloseProbe {});
         }
@@ -34,10 +40,19 @@ impl Generator {
         self.hear(bus);
         let now = self.now.saturating_add_signed(self.since_heard());
         self.go_to(now);
-        let Call::OpenProbe { frame, .. } = self.open_probe() else {
-            return;
-        };
-        self.emit(Call::OpenProbe { bus, now, frame });
+        let mut call = self.open_probe();
+        if let Call::OpenProbe {
+            bus: on, now: at, ..
+        } = &mut call
+        {
+            (*on, *at) = (bus, now);
+        }
+        self.emit(call);
+        bus
+    }
+
+    pub(super) fn one_window(&mut self) {
+        let bus = self.open_window();
         if self.random.chance(1, 8) {
             self.send_whole_probe(bus);
         }
@@ -133,7 +148,7 @@ impl Generator {
     }
 
     /// A moment around the opening or the end of the window.
-    fn window_moment(&mut self) -> u64 {
+    pub(super) fn window_moment(&mut self) -> u64 {
         let opened = can_probe::window().map_or(self.now, |window| window.opened_at_ms);
         let step = self
             .random

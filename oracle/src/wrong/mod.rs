@@ -10,6 +10,8 @@ mod previews;
 mod probe;
 mod records;
 mod saves;
+mod sending;
+mod serving;
 mod sessions;
 mod tries;
 mod typed;
@@ -61,6 +63,8 @@ pub fn all() -> Vec<Wrong> {
         conversions::RULES,
         saves::RULES,
         previews::RULES,
+        sending::RULES,
+        serving::RULES,
         probe::RULES,
         access::RULES,
     ]

@@ -2,7 +2,7 @@ use borrow.Author.Tests.{eq-eqb, ne-eqb, lt-ltb, le-ltb}
 use Rattle.state.specs.Checks.{checked}
 use Rattle.state.specs.View.{listsStay}
 use Rattle.pairing.specs.Pairing.{pair}
-use Rattle.pairing.proofs.Laws.{made-fits, made-long, made-bytes}
+use Rattle.phones.proofs.Made.{made-fits, made-long, made-bytes}
 use Rattle.pairing.proofs.add_paired_phone.Statement.{statement}
 use Rattle.pairing.proofs.add_paired_phone.Tie as tie
 

@@ -1,6 +1,6 @@
 use Rattle.state.specs.Checks.{checked}
 use Rattle.pairing.specs.Pairing.{setPeer}
-use Rattle.pairing.proofs.Laws.{made-fits, made-long, made-id}
+use Rattle.phones.proofs.Made.{made-fits, made-long, made-id}
 use Rattle.pairing.proofs.set_ble_peer.Statement.{statement}
 use Rattle.pairing.proofs.set_ble_peer.Tie as tie
 

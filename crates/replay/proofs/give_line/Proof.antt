@@ -5,7 +5,7 @@ use mathlib.Core.Path.{ap}
 use Prim.Native.Nat.{zero-le}
 use native.Mathlib.Omega.{arith}
 use Rattle.replay_player.proofs.Room.{too-long-in}
-use Rattle.replay_steps.specs.Turns.{Turn}
+use Rattle.replay_given.specs.Turns.{Turn}
 use Rattle.replay.proofs.Laws.{first-length, first-room, inside}
 use borrow.Author.Needs.{needs}
 use Rattle.replay.proofs.give_line.Statement.{statement}

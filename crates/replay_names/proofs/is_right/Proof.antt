@@ -8,7 +8,7 @@ use Rattle.replay_names.proofs.is_right.Tie as tie
 
 returns-2 : tie.Need-returns-2
 returns-2 c =
-    let far : length (c .before .args .t1) ≡ 25 = search needs in
+    let far : length (c .before .args .t1) ≡ 28 = search needs in
     sym (List·getD-eq-default (c .before .args .t1) false (omega arith))
 
 pub is-right-spec : {M : Type 1} → statement M

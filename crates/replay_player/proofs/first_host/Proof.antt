@@ -1,5 +1,6 @@
 use mathlib.Core.Path.{ap, _∙_}
 use Rattle.definition.specs.Gate.{Given}
+use Rattle.replay_host.specs.Host.{firstHost}
 use Rattle.replay_player.proofs.first_host.Statement.{statement}
 use Rattle.replay_player.proofs.first_host.Tie as tie
 
@@ -9,4 +10,5 @@ first-host-spec =
     (tie.spec
     (λ c κs. tt)
     (λ c κs. tt)
-    (λ c. λ g. ap (λ (d : Given). d .gate) (c .before .new-gate .ensures g) ∙ rw (c .before .before .no-method .ensures)))
+    (λ c κs. tt)
+    (λ c. λ g. c .first-host .ensures ∙ ap firstHost (ap (λ (d : Given). d .gate) (c .before .before .new-gate .ensures g) ∙ rw (c .before .before .before .no-method .ensures))))

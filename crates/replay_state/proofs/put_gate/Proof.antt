@@ -17,5 +17,6 @@ put-gate-spec =
     (λ c κs. tt)
     (λ c κs. tt)
     (λ c κs. tt)
+    (λ c κs. tt)
     (λ c. search needs)
-    (λ c. rw (c .before .before .put-save .ensures, c .before .before .before .before .before .before .before .put-probe .ensures, c .before .before .before .before .before .before .before .before .before .before .before .before .put-fields .ensures, c .before .before .before .before .before .before .before .before .before .before .before .before .before .before .before .before .before .before .put-session-or-none .ensures, c .before .before .before .before .before .before .before .before .before .before .before .before .before .before .before .before .before .before .before .before .before .before .put-front .ensures)))
+    (λ c. rw (c .before .before .put-queue .ensures, c .before .before .before .before .before .before .before .put-save .ensures, c .before .before .before .before .before .before .before .before .before .before .before .before .put-probe .ensures, c .before .before .before .before .before .before .before .before .before .before .before .before .before .before .before .before .before .put-fields .ensures, c .before .before .before .before .before .before .before .before .before .before .before .before .before .before .before .before .before .before .before .before .before .before .before .put-session-or-none .ensures, c .before .before .before .before .before .before .before .before .before .before .before .before .before .before .before .before .before .before .before .before .before .before .before .before .before .before .before .put-front .ensures)))

@@ -4,7 +4,7 @@ use mathlib.Core.Path.{sym, ap, _∙_}
 use lib.ListN.{length}
 use Rattle.definition.specs.Gate.{takePhoneValidationsSave, Given}
 use Rattle.replay_lines.proofs.Copies.{left-few, left-inside, left-back, left-whole}
-use Rattle.replay_steps.specs.Turns.{laid}
+use Rattle.replay_given.specs.Turns.{laid}
 use Rattle.replay_steps.proofs.Laws.{save-quiet, quiet-fits}
 use Rattle.replay_steps.proofs.put_take.Statement.{statement}
 use Rattle.replay_steps.proofs.put_take.Tie as tie
@@ -37,5 +37,5 @@ put-take-spec =
     (λ c κs. tt)
     (λ c κs. tt)
     (λ c κs. tt)
-    (λ c. search needs)
+    (λ c. c .before .before .put-calm .kept .1 .0 ∙ c .before .before .before .before .before .before .before .before .put-output .kept .0 ∙ c .before .before .before .before .before .before .before .before .before .before .before .before .before .put-answer .kept .0)
     returns)

@@ -8,7 +8,7 @@ use Rattle.replay_calls.specs.Calls.{unknown, otherLines, otherLine}
 use Rattle.replay_items.specs.Bytes.{lentBytes}
 use Rattle.replay_lines.proofs.Room.{_⊕_, upto, same}
 use Rattle.replay_state.proofs.Room.{gate-in}
-use Rattle.replay_steps.specs.Turns.{turnRoom}
+use Rattle.replay_given.specs.Turns.{turnRoom}
 use Rattle.replay_steps.proofs.run_other.Statement.{statement}
 use Rattle.replay_steps.proofs.run_other.Tie as tie
 

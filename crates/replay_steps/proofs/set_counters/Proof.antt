@@ -7,4 +7,4 @@ set-counters-spec =
     (tie.spec
     (λ c κs. tt)
     (λ c κs. tt)
-    (λ c. rw (c .before .before .before .with-probe .ensures, c .before .before .before .before .with-validation .ensures)))
+    (λ c. rw (c .before .before .before .before .with-probe .ensures, c .before .before .before .before .before .with-validation .ensures)))

@@ -5,7 +5,7 @@ use Rattle.replay_items.proofs.values.numbers.Tie as tie
 
 returns : tie.Need-returns
 unfolding numbersAt
-returns c = rw (← c .before .before .before .before .before .before .before .before .before .before .before .before .clock .ensures, ← c .before .before .before .before .before .before .before .before .before .before .word .ensures, ← c .before .before .before .before .before .before .before .before .small .ensures, ← c .before .before .before .before .before .before .word2 .ensures, ← c .before .before .before .before .word3 .ensures, ← c .before .before .word4 .ensures, ← c .word5 .ensures)
+returns c = rw (← c .before .before .before .before .before .before .before .before .before .before .before .before .before .before .before .before .before .before .clock .ensures, ← c .before .before .before .before .before .before .before .before .before .before .before .before .before .before .before .before .word .ensures, ← c .before .before .before .before .before .before .before .before .before .before .before .before .before .before .small .ensures, ← c .before .before .before .before .before .before .before .before .before .before .before .before .word2 .ensures, ← c .before .before .before .before .before .before .before .before .before .before .word3 .ensures, ← c .before .before .before .before .before .before .before .before .word4 .ensures, ← c .before .before .before .before .before .before .word5 .ensures, ← c .before .before .before .before .word6 .ensures, ← c .before .before .up-to .ensures, ← c .up-to2 .ensures)
 
 pub numbers-spec : {M : Type 1} → statement M
 numbers-spec =
@@ -16,6 +16,12 @@ numbers-spec =
     (λ c κs. search needs)
     (λ c. search needs)
     (λ c κs. tt)
+    (λ c. search needs)
+    (λ c κs. search needs)
+    (λ c. search needs)
+    (λ c κs. search needs)
+    (λ c. search needs)
+    (λ c κs. search needs)
     (λ c. search needs)
     (λ c κs. search needs)
     (λ c. search needs)

@@ -14,7 +14,7 @@ put-code-spec =
     (λ c. search needs)
     (λ c κs. tt)
     (λ c. search needs)
-    (λ c. rw (c .before .before .put-field .ensures, ← c .before .before .before .before .before .before .before .code-in-progress .ensures, c .before .before .before .before .before .before .if1 .taken))
+    (λ c. rw (c .before .before .put-field .ensures, ← c .before .before .before .before .before .before .code-in-progress .ensures, c .before .before .before .before .before .if1 .taken))
     (λ c. search needs)
     (λ c κs. tt)
     (λ c. search needs)

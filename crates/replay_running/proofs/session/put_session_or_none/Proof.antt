@@ -13,7 +13,7 @@ put-session-or-none-spec =
     (λ c κs. tt)
     (λ c κs. tt)
     (λ c. search needs)
-    (λ c. rw (c .before .before .put-code .ensures, c .before .before .before .before .before .before .put-stands .ensures, c .before .before .before .before .before .before .before .before .before .before .put-whose .ensures, c .before .before .before .before .before .before .before .before .before .before .before .before .if1 .taken))
+    (λ c. rw (c .before .before .put-code .ensures, c .before .before .before .before .before .before .before .before .put-stands .ensures, c .before .before .before .before .before .before .before .before .before .before .before .before .put-whose .ensures, c .before .before .before .before .before .before .before .before .before .before .before .before .before .before .if1 .taken))
     (λ c. search needs)
     (λ c κs. tt)
     (λ c. search needs)
