@@ -33,8 +33,8 @@ use Rattle.state.specs.Checks.{checked}
 use Rattle.state.specs.Replies.{quiet}
 use Rattle.state.specs.View.{Lists}
 use Rattle.can_tx.specs.declared.Verdict.{Verdict}
-use Rattle.can_tx.specs.Tx.{allow}
-use Rattle.can_tx.specs.Verdict.{answerBy, coreBy, saidBy}
+use Rattle.can_tx.specs.Verdict.{verdict, answerBy, coreBy, saidBy}
+use Rattle.can_tx.proofs.Laws.{decided-so}
 use Rattle.can_queue.specs.declared.Look.{Look}
 use Rattle.can_queue.specs.declared.Run.{Run}
 use Rattle.can_queue.specs.Calls.{Sending, unsent, sent, ownerFor, hasNoRoom, sending, Serving, ownerValidated, turn, turns, turnsTaken, noTurn, serving, noDecision, reportOf}
@@ -118,7 +118,7 @@ pub turned : (l : Lists) (clock : ℕ) (s : Run) (place : ℕ) (old w : Waiting)
     → old ≡ recordAt (s .all) (min place 15)
     → w ≡ underBus old
     → validated ≡ ownerValidated (s .core .policy .identity) l w
-    → saidBy (s .core) v ≡ allow (s .core) (w .frame .bus) (w .frame) (w .class) validated clock
+    → v ≡ verdict (s .core) (w .frame .bus) (w .frame) (w .class) validated clock
     → passes ≡ isYes (values (answerBy v))
     → core ≡ coreBy (s .core) v
     → Reports report (s .report) (w .frame) passes
@@ -126,10 +126,11 @@ pub turned : (l : Lists) (clock : ℕ) (s : Run) (place : ℕ) (old w : Waiting)
     → count ≡ s .queue .count - 1
     → Turns (record { core = core; queue = record { count = count; last = w .frame .bus }; all = left; report = report }) l clock s
 unfolding turn quiet
-turned l clock s place old w validated v passes core report left count is-place is-old is-w is-validated is-said is-passes is-core reports is-left is-count x e k h =
+turned l clock s place old w validated v passes core report left count is-place is-old is-w is-validated is-verdict is-passes is-core reports is-left is-count x e k h =
     let far : length (s .all) ≡ 16 = ap (λ (t : Run). length (t .all)) e ∙ k in
     let is-report = reports (x .decided) (ap (λ (t : Run). t .report) e) h in
     let taken : old ≡ recordAt (s .all) place = is-old ∙ ap (recordAt (s .all)) (rw is-place (place-in (s .all) (s .queue .count) (s .queue .last) far)) in
+    let is-said = ap (saidBy (s .core)) is-verdict ∙ decided-so (s .core) (w .frame .bus) (w .frame) (w .class) validated clock in
     let yes = is-passes ∙ ap (λ (o : Said). isYes (values (o .answer))) is-said in
     let next = is-core ∙ ap (λ (o : Said). o .core) is-said in
     rw (is-report, yes, next, is-left, is-count, is-validated, is-w, taken, is-place, e)

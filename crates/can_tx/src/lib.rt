@@ -12,9 +12,8 @@ ghost use mathlib.Core.Bool.{_&&_};
 ghost use lib.Dec.{eqb};
 ghost use Rattle.state.specs.Answers.{values, isYes};
 ghost use Rattle.probe_window.specs.Window.{isOpen};
-ghost use Rattle.can_tx.specs.Tx.{throughWindow, allowPlatform, allowsCommand};
-ghost use Rattle.can_tx.specs.Tx as Tx;
-ghost use Rattle.can_tx.specs.Verdict.{answerBy, coreBy, saidBy, foundAs};
+ghost use Rattle.can_tx.specs.Tx.{allow, allowsCommand};
+ghost use Rattle.can_tx.specs.Verdict.{foundAs, windowVerdict, platformVerdict, verdict, answerBy, coreBy};
 
 // What is decided of a frame. It is small, and the core is left alone but where an entry of the probe is marked: both calls that
 // have a frame decided look at the core where it lies.
@@ -50,7 +49,7 @@ fn reaches_window(p: Policy, b: Probe, bus: u8, frame: CanFrame, clock: u64) -> 
 
 // Only an open window lets the frame through.
 fn through_window(core: Core, bus: u8, frame: CanFrame, clock: u64) -> Verdict
-    ensures { λ r. ⌜ saidBy core r ≡ throughWindow core bus frame clock ⌝ }
+    ensures { λ r. ⌜ r ≡ windowVerdict core bus frame clock ⌝ }
 {
     let policy = core.policy;
     let b = core.probe;
@@ -63,7 +62,7 @@ fn through_window(core: Core, bus: u8, frame: CanFrame, clock: u64) -> Verdict
 }
 
 fn allow_platform(core: Core, bus: u8, frame: CanFrame, clock: u64) -> Verdict
-    ensures { λ r. ⌜ saidBy core r ≡ allowPlatform core bus frame clock ⌝ }
+    ensures { λ r. ⌜ r ≡ platformVerdict core bus frame clock ⌝ }
 {
     let policy = core.policy;
     if policy::is_can_bus_read_only(policy, bus) {
@@ -93,7 +92,7 @@ pub fn decide_can_tx(
     validated: bool,
     clock: u64,
 ) -> Verdict
-    ensures { λ r. ⌜ saidBy core r ≡ Tx.allow core bus frame class validated clock ⌝ }
+    ensures { λ r. ⌜ r ≡ verdict core bus frame class validated clock ⌝ }
 {
     let id = frame.id;
     if frames::can_id_in_range(id) {
@@ -163,7 +162,7 @@ pub fn allow_can_tx(
     validated: bool,
     clock: u64,
 ) -> Said
-    ensures { λ r. ⌜ r ≡ Tx.allow core bus frame class validated clock ⌝ }
+    ensures { λ r. ⌜ r ≡ allow core bus frame class validated clock ⌝ }
 {
     let v = decide_can_tx(core, bus, frame, class, validated, clock);
     let next = core_by(core, v);

@@ -1,5 +1,5 @@
 -- `Fair`: a run, any call, and any calls.
-use Prim.Native.Nat.{ℕ, zero, suc, _+_, _<_, _≤_, min}
+use Prim.Native.Nat.{ℕ, zero, suc, _+_, _-_, _<_, _≤_, min}
 use mathlib.Core.Path.{_≡_, refl, sym, ap, ap₂, _∙_, subst, subst₂}
 use mathlib.Core.Bool.{Bool, true, false, false≢true, and-eq-true-iff}
 use mathlib.Core.List.{List, [], _∷_, _++_, append-nil}
@@ -30,10 +30,10 @@ use Rattle.definition.specs.Gate.{PackedReply, Call, Says, saying, served, savi
 use Rattle.footprint.proofs.Keeps.{either}
 use Rattle.stays_in_range.proofs.Parts.{if-checked}
 use Rattle.stays_in_range.proofs.Queue.{neither, queue-in}
-use Rattle.fair_turns.specs.Turns.{Host, countOf, listAfter, hostAfter, Serves, serve, reportIn, reported, entries, nextOf}
+use Rattle.fair_turns.specs.Turns.{Host, countOf, listAfter, hostAfter, TakesTurns, serve, reportIn, reported, entries, nextOf}
 use Rattle.fair_turns.specs.Fair.{goesOn, Lends, Unaltered, end, next, Took, noTurns, placesOf, took, allTook, turnsUntil, bound, InTime, Fair}
 use Rattle.fair_turns.proofs.Ranged.{hostOf}
-use Rattle.fair_turns.proofs.Runs.{runOf, before-is, entries-are}
+use Rattle.fair_turns.proofs.Runs.{runOf, before-is, entries-are, run-length, run-count}
 use Rattle.fair_turns.proofs.Proved.{taken-are, turns-taken, before-turn}
 use Rattle.fair_turns.proofs.Waits.{Stands, leftOf, Fate, decided, waits, and-then, same-host, one-more, one-turn}
 
@@ -44,7 +44,7 @@ abbrev taking : Host → ℕ → ℕ → List ℕ
 taking s clock zero = []
 taking s clock (suc n) = taking s clock n ++ (nextOf (hostOf (s .gate) (runOf s clock n)) ∷ [])
 
-places-are : (s : Host) (clock n : ℕ) → Serves s → n ≤ countOf s → placesOf s clock n ≡ taking s clock n
+places-are : (s : Host) (clock n : ℕ) → TakesTurns s → n ≤ countOf s → placesOf s clock n ≡ taking s clock n
 places-are s clock zero h l = refl
 places-are s clock (suc n) h l =
     ap₂ (λ (ts : List ℕ) (t : Host). ts ++ (nextOf t ∷ [])) (places-are s clock n h (omega arith)) (before-turn s clock n h (omega arith))
@@ -65,7 +65,7 @@ fate-serve s n clock p h = go (inRange (view (s .gate))) refl
   where
     go : (b : Bool) → inRange (view (s .gate)) ≡ b → Fate s p (took s (serve s n clock)) (hostAfter s (serve s n clock))
     go true r =
-        let v : Serves s = record { ranged = r; sixteen = h .sixteen } in
+        let v : TakesTurns s = record { ranged = r; sixteen = h .sixteen } in
         let m = min n (countOf s) in
         let e : took s (serve s n clock) ≡ ran s clock m =
         λ i. record { places = (ap (placesOf s clock) (taken-are s n clock v) ∙ places-are s clock m v (omega arith)) i; entries = entries-are s n clock v i } in
@@ -189,19 +189,34 @@ left-bound s p h fits =
     ap (λ (m : List Waiting). before (busOf (recordAt l p)) m p) (sym (take-append-drop n l)) ∙ before-more (busOf (recordAt l p)) p (waitingOf l n) (drop n l) (omega (arith, waiting-length l n)) in
     rw k (rw w at (turns-bounded (s .gate .queue .last) (waitingOf l n) p))
 
-in-time : (s t : Host) (p : ℕ) (a : Took) → Each a → leftOf (s .gate .queue) (s .list) p < bound s p → bound s p ≤ length (a .entries) → Fate s p a t → InTime s p a
+-- it is decided in time, if it would have had so many turns where it waited still
+in-time : (s t : Host) (p : ℕ) (a : Took) → Each a → leftOf (s .gate .queue) (s .list) p < bound s p → ((q : ℕ) → Stands (t .gate .queue) (t .list) q → bound s p ≤ length (a .entries)) → Fate s p a t → InTime s p a
 in-time s t p a e l h (decided i k n m f) =
     let u : turnsUntil p (a .places) ≡ i = ap (turnsUntil p) (sym (append-nil (a .places))) ∙ m [] in
     record { each = e; within = omega arith; frame = rw u f }
-in-time s t p a e l h (waits p′ k f n m) = absurd (omega arith)
+in-time s t p a e l h (waits p′ k f n m) = let j = h p′ k in absurd (omega arith)
 
-stands : (s : Host) (p : ℕ) → Serves s → p < countOf s → Stands (s .gate .queue) (s .list) p
+stands : (s : Host) (p : ℕ) → TakesTurns s → p < countOf s → Stands (s .gate .queue) (s .list) p
 unfolding inRange view
 stands s p h w =
     let q = queue-in (s .gate .queue) ((simp and-eq-true-iff at (h .ranged)) .1) in
     record { waits = w; few = q .0; bus = omega (arith, q .1); sixteen = h .sixteen }
 
-pub fair : Fair
-fair s p ks h w u l =
+fair-calls : (s : Host) (p : ℕ) (ks : List Call) → TakesTurns s → p < countOf s → Unaltered s ks → bound s p ≤ length (allTook s ks .entries) → InTime s p (allTook s ks)
+fair-calls s p ks h w u l =
     let k = stands s p h w in
-    in-time s (hostAfterAll s ks) p (allTook s ks) (each-all s ks) (left-bound s p w (omega (arith, k .few, k .sixteen))) l (fate-all s ks p u k)
+    in-time s (hostAfterAll s ks) p (allTook s ks) (each-all s ks) (left-bound s p w (omega (arith, k .few, k .sixteen))) (λ q v. l) (fate-all s ks p u k)
+
+-- a run that leaves one waiting took as many turns as it was given
+fair-run : (s : Host) (p n clock : ℕ) → TakesTurns s → p < countOf s → bound s p ≤ n → InTime s p (took s (serve s n clock))
+fair-run s p n clock h w l =
+    let k = stands s p h w in
+    let m = min n (countOf s) in
+    let long : length (entries (s .gate) (serve s n clock)) ≡ m = ap length (entries-are s n clock h) ∙ run-length s clock m in
+    let rest : countOf (hostAfter s (serve s n clock)) ≡ countOf s - m = ap countOf (before-is s n clock h) ∙ run-count s clock m in
+    in-time s (hostAfter s (serve s n clock)) p (took s (serve s n clock)) (each-serve s (s .list) n clock) (left-bound s p w (omega (arith, k .few, k .sixteen)))
+    (λ q v. omega (arith, long, rest, v .waits))
+    (fate-serve s n clock p k)
+
+pub fair : Fair
+fair = record { taken = fair-calls; given = fair-run }

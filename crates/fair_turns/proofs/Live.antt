@@ -31,7 +31,7 @@ use Rattle.new_gate.specs.New as New
 use Rattle.definition.specs.Gate as Gate
 use Rattle.definition.specs.Gate.{Call, onQueue, onCore, step}
 use Rattle.definition.specs.Cases.{new, phone}
-use Rattle.fair_turns.specs.Turns.{Host, countOf, hostAfter, Serves, serve}
+use Rattle.fair_turns.specs.Turns.{Host, countOf, hostAfter, TakesTurns, serve}
 use Rattle.fair_turns.specs.Fair.{Unaltered, end, next, allTook, turnsUntil, bound, InTime}
 use Rattle.fair_turns.proofs.Fair.{fair}
 
@@ -71,7 +71,7 @@ unaltered : Unaltered first calls
 unaltered = next refl refl (next refl refl (next refl tt (next refl refl end)))
 
 pub record Examples : Type 0 where
-  pub serves : Serves first
+  pub serves : TakesTurns first
   pub waits : 7 < countOf first
   pub many : bound first 7 ≤ length (allTook first calls .entries)
   -- in which order they are decided, by their numbers
@@ -98,4 +98,4 @@ examples = record {
 
 -- what the claim says of the second
 pub second : InTime first 7 (allTook first calls)
-second = fair first 7 calls (examples .serves) (examples .waits) unaltered (examples .many)
+second = fair .taken first 7 calls (examples .serves) (examples .waits) unaltered (examples .many)

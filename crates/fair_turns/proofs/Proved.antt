@@ -29,20 +29,24 @@ use Rattle.definition.specs.Gate.{PackedReply, Says, laidReply, queueing, says,
 use Rattle.footprint.proofs.Keeps.{either}
 use Rattle.stays_in_range.specs.Stays.{InRange}
 use Rattle.stays_in_range.proofs.Queue.{queue-in}
-use Rattle.fair_turns.specs.Turns.{Host, countOf, Serves, serve, reportIn, reported, entries, beforeTurn, nextOf, decided, gateAfter, noneTaken, TurnsTaken, Turn, ByAllow, Closed, ClosedUp}
+use Rattle.fair_turns.specs.Turns.{Host, countOf, TakesTurns, serve, reportIn, reported, entries, beforeTurn, nextOf, decided, gateAfter, noneTaken, TurnsTaken, Turn, ByAllow, Closed, ClosedUp}
 use Rattle.fair_turns.proofs.Ranged as Ranged
 use Rattle.fair_turns.proofs.Ranged.{hostOf, gate-after}
 use Rattle.fair_turns.proofs.Runs.{runOf, serves-is, before-is, entries-are, run-length, run-entry, run-serves, run-count, from, run-on}
 
 -- ---- how many
 
-pub taken-are : (s : Host) (n clock : ℕ) → Serves s → reported (s .gate) (serve s n clock) .turns ≡ min n (countOf s)
+pub taken-are : (s : Host) (n clock : ℕ) → TakesTurns s → reported (s .gate) (serve s n clock) .turns ≡ min n (countOf s)
 unfolding reportOf
 taken-are s n clock h = let e = serves-is s n clock h in (λ i. reportIn (e i .answer) .turns) ∙ run-length s clock (min n (countOf s))
 
 none-taken : (s : Host) (n clock : ℕ) → InRange (s .gate) → length (s .list) ≢ 16 → step (s .gate) (serve s n clock) ≡ noneTaken s Done
 unfolding step gives left says queueing view serving turnsTaken turns noSignals nothingRaised
 none-taken s n clock r l = rw (r, ne-eqb (length (s .list)) 16 l)
+
+no-turn : (s : Host) (n clock : ℕ) → InRange (s .gate) → turnsTaken n (s .gate .queue) (s .list) ≡ 0 → step (s .gate) (serve s n clock) ≡ noneTaken s Done
+unfolding step gives left says queueing view serving turns noSignals nothingRaised
+no-turn s n clock r z = rw (r, z)
 
 out-of-range : (s : Host) (n clock : ℕ) → inRange (view (s .gate)) ≡ false → step (s .gate) (serve s n clock) ≡ noneTaken s BadSettings
 unfolding step gives left says queueing view noSignals nothingRaised
@@ -59,27 +63,33 @@ taken-defined s n clock r = go (eqb (length (s .list)) 16) refl
 pub turns-taken : TurnsTaken
 turns-taken = record {
   answer = λ s n clock h. let e = serves-is s n clock h in (λ i. e i .answer) ∙ sym (λ i. report Done (reportIn (e i .answer)));
+  signals = λ s n clock h. let e = serves-is s n clock h in λ i. e i .signals;
   turns = taken-are;
   defined = taken-defined;
+  noTurn = no-turn;
   otherLength = none-taken;
   outOfRange = out-of-range;
 }
 
 -- ---- turn i
 
-module _ (s : Host) (clock i : ℕ) (h : Serves s) where
+module _ (s : Host) (clock i : ℕ) (h : TakesTurns s) where
   -- of those that wait
   pub before-turn : i ≤ countOf s → beforeTurn s clock i ≡ hostOf (s .gate) (runOf s clock i)
   before-turn l = let e : min i (countOf s) ≡ i = omega arith in before-is s i clock h ∙ ap (λ (k : ℕ). hostOf (s .gate) (runOf s clock k)) e
 
-turn-is : (s : Host) (n clock i : ℕ) → Serves s → i < min n (countOf s) → Turn s n clock i
+first-is : (s : Host) (clock : ℕ) → TakesTurns s → beforeTurn s clock 0 ≡ s
+unfolding turns
+first-is s clock h = before-turn s clock 0 h (omega arith)
+
+turn-is : (s : Host) (n clock i : ℕ) → TakesTurns s → i < min n (countOf s) → Turn s n clock i
 unfolding turns
 turn-is s n clock i h l =
     let b = before-turn s clock i h (omega arith) in
     let c = before-turn s clock (suc i) h (omega arith) in
     let k = run-serves s clock i h in
     record {
-      serves = subst Serves (sym b) k;
+      serves = subst TakesTurns (sym b) k;
       entry =
           ap (λ (ds : List Decided). getD ds i noDecision) (entries-are s n clock h) ∙ run-entry s clock (min n (countOf s)) i l ∙
           sym (Ranged.by-allow (s .gate) clock (runOf s clock i) (k .ranged)) ∙ ap (λ (t : Host). decided t clock) (sym b);
@@ -95,7 +105,7 @@ turn-reported s n clock i l = go (inRange (view (s .gate))) refl (eqb (length (s
     untaken a e = let z : reported (s .gate) (serve s n clock) .turns ≡ 0 = λ j. reportIn (e j .answer) .turns in absurd (omega arith)
 
     go : (a : Bool) → inRange (view (s .gate)) ≡ a → (b : Bool) → eqb (length (s .list)) 16 ≡ b → Turn s n clock i
-    go true r true e = let h : Serves s = record { ranged = r; sixteen = eqb-true (length (s .list)) 16 e } in turn-is s n clock i h (omega (arith, taken-are s n clock h))
+    go true r true e = let h : TakesTurns s = record { ranged = r; sixteen = eqb-true (length (s .list)) 16 e } in turn-is s n clock i h (omega (arith, taken-are s n clock h))
     go true r false e = untaken Done (none-taken s n clock r (eqb-false (length (s .list)) 16 e))
     go false r b e = untaken BadSettings (out-of-range s n clock r)
 
@@ -113,7 +123,7 @@ past-are s n clock = either (λ (x : Says). Whole (laidReply (x .answer))) (inRa
 
 -- ---- a run of m turns, then one of n
 
-module _ (s : Host) (m n clock : ℕ) (h : Serves s) where
+module _ (s : Host) (m n clock : ℕ) (h : TakesTurns s) where
   abbrev m′ : ℕ
   m′ = min m (countOf s)
 
@@ -140,11 +150,11 @@ module _ (s : Host) (m n clock : ℕ) (h : Serves s) where
       sym (ap (λ (u : Host). entries (s .gate) (serve s m clock) ++ entries (u .gate) (serve u n clock)) (before-is s m clock h) ∙ ap₂ _++_ (entries-are s m clock h) (entries-are t n clock (run-serves s clock m′ h)))
 
 pub by-allow : ByAllow
-by-allow = record { turn = turn-is; past = past-are; joined = joined-are; reports = reports-are }
+by-allow = record { first = first-is; turn = turn-is; past = past-are; joined = joined-are; reports = reports-are }
 
 -- ---- the list as it is left
 
-module _ (g : Gate) (clock : ℕ) (x : Serving) (h : Serves (hostOf g x)) (some : 0 < x .queue .count) where
+module _ (g : Gate) (clock : ℕ) (x : Serving) (h : TakesTurns (hostOf g x)) (some : 0 < x .queue .count) where
   abbrev line : List Waiting
   line = waitingOf (x .list) (x .queue .count)
 

@@ -20,7 +20,7 @@ use Rattle.answers.specs.Query.{report}
 use Rattle.can_queue.specs.Calls.{Serving, turn, turns, turnsTaken, noTurn, serving, noDecision, reportOf}
 use Rattle.can_queue.proofs.Laws.{turns-decide}
 use Rattle.definition.specs.Gate.{PackedReply, queueing, says, records, Given, left, gives, step}
-use Rattle.fair_turns.specs.Turns.{Host, countOf, listAfter, Serves, serve, reportIn, entries, beforeTurn}
+use Rattle.fair_turns.specs.Turns.{Host, countOf, listAfter, TakesTurns, serve, reportIn, entries, beforeTurn}
 use Rattle.fair_turns.proofs.Ranged.{hostOf, entryOf, turn-ranged}
 
 -- ---- a run of n turns, of those that wait
@@ -31,18 +31,18 @@ runOf s clock n = turns (listsIn (s .gate .phones)) clock n (noTurn (s .gate .co
 abbrev pub givenOf : Gate → Serving → Given
 givenOf g x = record { numbered = numbered Done; answer = report Done (reportOf (x .decided)); signals = noSignals; lent = records (x .list); gate = hostOf g x .gate }
 
-pub serves-is : (s : Host) (n clock : ℕ) → Serves s → step (s .gate) (serve s n clock) ≡ givenOf (s .gate) (runOf s clock (min n (countOf s)))
+pub serves-is : (s : Host) (n clock : ℕ) → TakesTurns s → step (s .gate) (serve s n clock) ≡ givenOf (s .gate) (runOf s clock (min n (countOf s)))
 unfolding step gives left says queueing view serving turnsTaken noSignals nothingRaised
 serves-is s n clock h = rw (h .ranged, eq-eqb (length (s .list)) 16 (h .sixteen))
 
-pub before-is : (s : Host) (n clock : ℕ) → Serves s → beforeTurn s clock n ≡ hostOf (s .gate) (runOf s clock (min n (countOf s)))
+pub before-is : (s : Host) (n clock : ℕ) → TakesTurns s → beforeTurn s clock n ≡ hostOf (s .gate) (runOf s clock (min n (countOf s)))
 before-is s n clock h = let e = serves-is s n clock h in λ i. record { gate = e i .gate; list = listAfter (s .list) (e i .lent) }
 
 -- its entries
 abbrev entriesIn : PackedReply → List Decided
 entriesIn r = take (reportIn r .turns) (reportIn r .frames)
 
-pub entries-are : (s : Host) (n clock : ℕ) → Serves s → entries (s .gate) (serve s n clock) ≡ runOf s clock (min n (countOf s)) .decided
+pub entries-are : (s : Host) (n clock : ℕ) → TakesTurns s → entries (s .gate) (serve s n clock) ≡ runOf s clock (min n (countOf s)) .decided
 unfolding reportOf
 entries-are s n clock h = let e = serves-is s n clock h in (λ i. entriesIn (e i .answer)) ∙ padded-take 16 noDecision (runOf s clock (min n (countOf s)) .decided)
 
@@ -65,7 +65,7 @@ run-entry s clock (suc n) i h = go (eq-or-lt-of-le {n = i} {m = n} (le-of-suc-le
     go (inr l) k = List·getD-append ds _ noDecision i (omega (arith, run-length s clock n)) ∙ k l
 
 -- gate and list take turns still
-pub run-serves : (s : Host) (clock n : ℕ) → Serves s → Serves (hostOf (s .gate) (runOf s clock n))
+pub run-serves : (s : Host) (clock n : ℕ) → TakesTurns s → TakesTurns (hostOf (s .gate) (runOf s clock n))
 unfolding turns turn
 run-serves s clock zero h = record { ranged = h .ranged; sixteen = h .sixteen }
 run-serves s clock (suc n) h =

@@ -11,7 +11,7 @@ use Rattle.waiting_list.specs.Fair.{before, follow}
 use Rattle.state.specs.declared.Decided.{Decided}
 use Rattle.can_queue.specs.Calls.{noDecision}
 use Rattle.definition.specs.Gate.{QueueCall, sendCanFrame, serveCanFrames, Call, newGateCall, startValidation, submitValidationCode, onSession, onLists, onSave, onQueue, onCore, ask, Lent, nothing, bytes, records, lentTo}
-use Rattle.fair_turns.specs.Turns.{Host, countOf, hostAfter, Serves, reported, entries, beforeTurn, nextOf}
+use Rattle.fair_turns.specs.Turns.{Host, countOf, hostAfter, TakesTurns, reported, entries, serve, beforeTurn, nextOf}
 
 -- ---- the calls
 
@@ -98,6 +98,9 @@ pub record InTime (s : Host) (p : ℕ) (a : Took) : Type 0 where
   pub within : turnsUntil p (a .places) < bound s p
   pub frame : getD (a .entries) (turnsUntil p (a .places)) noDecision .frame ≡ underBus (recordAt (s .list) p) .frame
 
--- a frame that waits, and calls that take so many turns
-abbrev pub Fair : Type 0
-Fair = (s : Host) (p : ℕ) (ks : List Call) → Serves s → p < countOf s → Unaltered s ks → bound s p ≤ length (allTook s ks .entries) → InTime s p (allTook s ks)
+pub record Fair : Type 0 where
+  -- a frame that waits, and calls that take so many turns
+  pub taken : (s : Host) (p : ℕ) (ks : List Call) → TakesTurns s → p < countOf s → Unaltered s ks → bound s p ≤ length (allTook s ks .entries)
+      → InTime s p (allTook s ks)
+  -- and one run that is given so many, be it that fewer wait
+  pub given : (s : Host) (p n clock : ℕ) → TakesTurns s → p < countOf s → bound s p ≤ n → InTime s p (took s (serve s n clock))

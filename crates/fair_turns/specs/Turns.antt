@@ -44,7 +44,7 @@ abbrev pub hostAfter : Host → Call → Host
 hostAfter s k = record { gate = after (s .gate) k; list = listAfter (s .list) (step (s .gate) k .lent) }
 
 -- where turns are taken: the gate is in range, and the list has sixteen records
-pub record Serves (s : Host) : Type 0 where
+pub record TakesTurns (s : Host) : Type 0 where
   pub ranged : InRange (s .gate)
   pub sixteen : length (s .list) ≡ 16
 
@@ -115,11 +115,15 @@ abbrev pub noneTaken : Host → Answer → Given
 noneTaken s a = record { numbered = numbered a; answer = Query.report a (reportOf []); signals = noSignals; lent = records (s .list); gate = s .gate }
 
 pub record TurnsTaken : Type 0 where
-  pub answer : (s : Host) (n clock : ℕ) → Serves s → step (s .gate) (serve s n clock) .answer ≡ Query.report Done (reported (s .gate) (serve s n clock))
+  pub answer : (s : Host) (n clock : ℕ) → TakesTurns s → step (s .gate) (serve s n clock) .answer ≡ Query.report Done (reported (s .gate) (serve s n clock))
+  -- nothing is raised
+  pub signals : (s : Host) (n clock : ℕ) → TakesTurns s → step (s .gate) (serve s n clock) .signals ≡ noSignals
   -- "the turns taken, which is the smaller of that number and the frames waiting"
-  pub turns : (s : Host) (n clock : ℕ) → Serves s → reported (s .gate) (serve s n clock) .turns ≡ min n (countOf s)
+  pub turns : (s : Host) (n clock : ℕ) → TakesTurns s → reported (s .gate) (serve s n clock) .turns ≡ min n (countOf s)
   -- as many as the definition takes, whatever the list
   pub defined : (s : Host) (n clock : ℕ) → InRange (s .gate) → reported (s .gate) (serve s n clock) .turns ≡ turnsTaken n (s .gate .queue) (s .list)
+  -- no turn, be it that none is given or none waits: gate and list as they were
+  pub noTurn : (s : Host) (n clock : ℕ) → InRange (s .gate) → turnsTaken n (s .gate .queue) (s .list) ≡ 0 → step (s .gate) (serve s n clock) ≡ noneTaken s Done
   -- "A list of another length takes .. no turns"
   pub otherLength : (s : Host) (n clock : ℕ) → InRange (s .gate) → length (s .list) ≢ 16 → step (s .gate) (serve s n clock) ≡ noneTaken s Done
   -- "25 if out of range"
@@ -127,17 +131,19 @@ pub record TurnsTaken : Type 0 where
 
 -- turn i of a run of n
 pub record Turn (s : Host) (n clock i : ℕ) : Type 0 where
-  pub serves : Serves (beforeTurn s clock i)
+  pub serves : TakesTurns (beforeTurn s clock i)
   pub entry : getD (entries (s .gate) (serve s n clock)) i noDecision ≡ decided (beforeTurn s clock i) clock
   pub gate : beforeTurn s clock (suc i) .gate ≡ gateAfter (beforeTurn s clock i) clock
 
 pub record ByAllow : Type 0 where
-  pub turn : (s : Host) (n clock i : ℕ) → Serves s → i < min n (countOf s) → Turn s n clock i
+  -- the first turn finds gate and list as they are lent
+  pub first : (s : Host) (clock : ℕ) → TakesTurns s → beforeTurn s clock 0 ≡ s
+  pub turn : (s : Host) (n clock i : ℕ) → TakesTurns s → i < min n (countOf s) → Turn s n clock i
   -- past the turns taken a report has empty frames and no
   pub past : (s : Host) (n clock : ℕ) → reported (s .gate) (serve s n clock) .frames ≡ padded 16 noDecision (entries (s .gate) (serve s n clock))
   -- a run of m + n turns is a run of m, then one of n, at one now
-  pub joined : (s : Host) (m n clock : ℕ) → Serves s → beforeTurn s clock (m + n) ≡ beforeTurn (beforeTurn s clock m) clock n
-  pub reports : (s : Host) (m n clock : ℕ) → Serves s
+  pub joined : (s : Host) (m n clock : ℕ) → TakesTurns s → beforeTurn s clock (m + n) ≡ beforeTurn (beforeTurn s clock m) clock n
+  pub reports : (s : Host) (m n clock : ℕ) → TakesTurns s
       → entries (s .gate) (serve s (m + n) clock) ≡ entries (s .gate) (serve s m clock) ++ entries (beforeTurn s clock m .gate) (serve (beforeTurn s clock m) n clock)
 
 -- the list as a turn leaves it
@@ -153,4 +159,4 @@ pub record Closed (before after : Host) : Type 0 where
   pub sixteen : length (after .list) ≡ 16
 
 abbrev pub ClosedUp : Type 0
-ClosedUp = (s : Host) (clock i : ℕ) → Serves s → i < countOf s → Closed (beforeTurn s clock i) (beforeTurn s clock (suc i))
+ClosedUp = (s : Host) (clock i : ℕ) → TakesTurns s → i < countOf s → Closed (beforeTurn s clock i) (beforeTurn s clock (suc i))

@@ -1,6 +1,7 @@
-// The calls on the frames that wait, in a list of sixteen records that the host lends (02, W-204): one function for each. State by value in;
-// answer, signals, report and state by value out. Each promise is an equation with `step` of definition/specs/Gate.antt, for every gate and
-// every list that is lent. The two calls alone see the list: what they decide, they decide of sixteen records by value.
+// The calls on the frames that wait, in a list of sixteen records that the host lends (02, W-204). State by value in; answer, signals, report
+// and state by value out. The promises of the two calls are equations with `step` of definition/specs/Gate.antt, for every gate and every
+// list that is lent; those of their parts, which have the sixteen records by value, with specs/Given.antt. The two calls, and `load` and
+// `store` of waiting_list, alone see the lent list.
 use can_queue::Run;
 use can_queue::Sent;
 use frames::CanFrame;

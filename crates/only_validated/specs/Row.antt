@@ -143,7 +143,7 @@ pub record OnlyValidated : Type 0 where
   -- whatever the call, a phone becomes listed for a car only if the call validates it
   pub call : (g : Gate) (k : Call) (car phone : List ℕ) → NotListed g car phone → Listed (after g k) car phone
       → (inRange (view g) ≡ true) × Validates g car phone k
-  -- a command that waited passes by the same rule, at the gate as it is before its turn
+  -- a command that waited passes only by the same rule, at the gate as it is before its turn
   pub turn : (s : Host) (n clock i : ℕ) (frame : CanFrame) (owner : List ℕ) → Served s n clock i frame owner → MayCommand (beforeTurn s clock i .gate) (frame .bus) frame owner
   -- whatever the calls, from any gate that does not list the owner: if a command of it passes after them, one of them validated it for
   -- the car identified then

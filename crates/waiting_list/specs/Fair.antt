@@ -1,4 +1,4 @@
--- What W-204's claim on waiting speaks of: "A frame with k before it on its bus, none altered meanwhile, is decided within 4 × (k + 1) turns".
+-- What W-204's claim on waiting speaks of (`before`, `follow`), and what its proof counts (`gone`, `turnsLeft`): "A frame with k before it on its bus, none altered meanwhile, is decided within 4 × (k + 1) turns".
 use mathlib.Core.Bool.{cond}
 use mathlib.Core.List.{List, [], _∷_}
 use Prim.Native.Nat.{ℕ, zero, suc, _+_, _-_, _*_, _%_}

@@ -54,7 +54,7 @@ nextPlace last ws = oldestOn (nextBus last ws) ws
 
 -- ---- the list as it is left
 
--- the places from p up to e hold what the next place held; every other place is as it was
+-- the places from p to e - 1 hold what the next place held; every other place is as it was
 unfoldable pub moved : {A : Type 0} → List A → ℕ → ℕ → List A
 moved [] p e = []
 moved (x ∷ xs) p zero = x ∷ xs

@@ -1,22 +1,16 @@
 use borrow.Author.Needs.{needs}
 use Rattle.can_tx.proofs.found_as.Statement.{statement}
 use Rattle.can_tx.proofs.found_as.Tie as tie
-use Rattle.can_tx.proofs.found_as.Reads as reads
-use Rattle.can_tx.proofs.found_as.Lts as lts
 
--- src/lib.rt:34:28
 enum-told : tie.Need-enum-told
 enum-told c = search needs
 
--- src/lib.rt:35:20
 enum-known-found : tie.Need-enum-known-found
 enum-known-found c = search needs
 
--- src/lib.rt:30:1
 returns : tie.Need-returns
 returns c = search needs
 
--- src/lib.rt:30:1
 returns-2 : tie.Need-returns-2
 returns-2 c = rw (c .before .found .given .1)
 
