@@ -2,8 +2,8 @@
 use saved_record::RecordVerdict;
 ghost use mathlib.Core.Path.{_≡_};
 ghost use mathlib.Core.List.{_++_};
-ghost use Prim.Native.Nat.{_+_, _≤_};
-ghost use lib.ListN.{length};
+ghost use Prim.Native.Nat.{_+_, _-_, _≤_};
+ghost use lib.ListN.{length, drop};
 ghost use Rattle.converter.specs.Convert.{outcomeOf, noRoom, laidDown, converted};
 ghost use Rattle.converter.specs.Steps.{Accepted};
 
@@ -28,11 +28,12 @@ fn refused(answer: Conversion) -> Converted
     Converted { answer, room: 0 }
 }
 
-// Lays down a record, its head and then its body, where there is room for both.
-fn put_record(head: &[u8], body: &[u8], out: &mut [u8]) -> Converted
-    requires { ⌜ length (now head) + length (now body) ≤ 4358 ⌝ }
-    ensures { λ r. ⌜ outcomeOf r (now (out .exit)) ≡ laidDown (now (head .entry) ++ now (body .entry)) (now (out .entry)) ⌝ }
+// Lays down a record, its head and then what stands in `saved` from `from` on, where there is room for both.
+fn put_record(head: &[u8], saved: &[u8], from: usize, out: &mut [u8]) -> Converted
+    requires { ⌜ (from ≤ length (now saved)) × (length (now head) + (length (now saved) - from) ≤ 4358) ⌝ }
+    ensures { λ r. ⌜ outcomeOf r (now (out .exit)) ≡ laidDown (now (head .entry) ++ drop from (now (saved .entry))) (now (out .entry)) ⌝ }
 {
+    let body = &saved[from..];
     let n = head.len();
     let room = n + body.len();
     if out.len() < room {
@@ -57,24 +58,24 @@ fn put_accepted(saved: &[u8], cars: usize, two: bool, out: &mut [u8]) -> Convert
     let version = saved[0];
     if two {
         if version == 1 {
-            return put_record(b"\x02\x01", &saved[1..], out);
+            return put_record(b"\x02\x01", saved, 1, out);
         }
-        return put_record(b"\x02", &saved[1..], out);
+        return put_record(b"\x02", saved, 1, out);
     }
     if 1 < cars {
         return refused(Conversion::ManyCars);
     }
     if version == 1 {
-        return put_record(b"\x01", &saved[1..], out);
+        return put_record(b"\x01", saved, 1, out);
     }
-    put_record(b"\x01", &saved[2..], out)
+    put_record(b"\x01", saved, 2, out)
 }
 
 // Judges a record as restore does, and lays it down in `out` as version 2, or as version 1. A refusal leaves `out` as it is.
 pub fn convert_phone_validations(saved: &[u8], two: bool, out: &mut [u8]) -> Converted
     ensures { λ r. ⌜ outcomeOf r (now (out .exit)) ≡ converted (now (saved .entry)) two (now (out .entry)) ⌝ }
 {
-    let read = saved_record::decode_phone_validations(saved);
+    let read = decode_record::decode_phone_validations(saved);
     let answer = read.answer;
     match answer {
         RecordVerdict::Restored => {

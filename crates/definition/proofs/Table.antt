@@ -9,14 +9,15 @@ use Rattle.phones.specs.Ids.{someOf, allOf, kept, joined, contains, removeAll, 
 use Rattle.phones.specs.Phones.{idBytes, idInRange, idOf, idsIn, listInRange, listOf, phonesOf, tooLong}
 use Rattle.frames.specs.Frames.{isEntry}
 use Rattle.draw.specs.Draw.{digits, drawLimit, drawn, firstBelow, group}
-use Rattle.text.specs.Utf8.{begins3, begins4, decode, decode2, decode3, decode4, encode, encodeAll, scalar, scalars, utf8-2, utf8-3, utf8-4, within}
+use Rattle.utf8.specs.Utf8.{begins3, begins4, decode, decode2, decode3, decode4, encode, encodeAll, scalar, scalars, utf8-2, utf8-3, utf8-4, within}
 use Rattle.text.specs.Text.{beginsDigit, isDigit, isDropped, isSeparator, isText, right, trim, trimFront, trimmed, ungrouped, ungroupedFrom, white}
 use Rattle.phone_fields.specs.PhoneFields.{anyLong, before, field, fields, overLimits, readFields}
 use Rattle.saved_record.specs.SavedRecord.{carPart, carParts, encoded, ofCar, readCounted, readAfter, readCar, readOn, readCars, readTwo, readVersion, nothingAfter, hasCar, twice, over, judged, decoded}
 use Rattle.saved_record.specs.Store.{carOf, laidCar, emptyCar, carsOf, storeOf}
 use Rattle.decimal.specs.Decimal.{digitsUpTo, decimalOf}
 use Rattle.hex.specs.Hex.{digit, hexOf}
-use Rattle.listing.specs.Listing.{line, phoneLines, carLines, eachCar, acceptedLines, refusedLines, linesOf, lines}
+use Rattle.car_lines.specs.Lines.{line, phoneLines, carLines}
+use Rattle.listing.specs.Listing.{eachCar, acceptedLines, refusedLines, linesOf, lines}
 use Rattle.state.specs.declared.Status.{Status}
 use Rattle.state.specs.declared.Status.the-variants.{InProgress, Failed}
 use Rattle.state.specs.declared.Gate.{Gate}

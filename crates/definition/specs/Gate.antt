@@ -39,7 +39,9 @@ use Rattle.pairing.specs.Pairing as Pairing
 use Rattle.save.specs.Save.{Saving, noSave, opening, taking}
 use Rattle.waiting_list.specs.declared.Waiting.{Waiting}
 use Rattle.can_queue.specs.Calls as CanQueue
-use Rattle.can_queue.specs.Calls.{Sending, Serving, serving, reportOf}
+use Rattle.can_turns.specs.Turns as CanTurns
+use Rattle.can_queue.specs.Calls.{Sending}
+use Rattle.can_turns.specs.Turns.{Serving, serving, reportOf}
 use Rattle.validations.specs.Store as Validations
 use Rattle.validations.specs.Store.{recordFor, isFull, validating}
 use Rattle.phone_trust.specs.Trust.{isValidated}

@@ -24,7 +24,8 @@ use Rattle.state.specs.View.{view}
 use Rattle.range.specs.Range.{inRange}
 use Rattle.save.specs.Save as Save
 use Rattle.answers.specs.Query.{report}
-use Rattle.can_queue.specs.Calls.{Sending, unsent, sending, turn, turns, noDecision, reportOf}
+use Rattle.can_queue.specs.Calls.{Sending, unsent, sending}
+use Rattle.can_turns.specs.Turns.{turn, turns, noDecision, reportOf}
 use Rattle.definition.specs.Gate as Gate
 use Rattle.definition.specs.Gate.{PackedReply, Call, Says, saying, served, saving, queueing, says, laidReply, lentTo, bytes, records, lentAs, lentAfter, ofSending, left, gives, step}
 use Rattle.footprint.proofs.Keeps.{either}

@@ -27,6 +27,7 @@ use Rattle.can.specs.Can as Can
 use Rattle.save.specs.Save as Save
 use Rattle.can_tx.specs.Tx as Tx
 use Rattle.can_queue.specs.Calls as CanQueue
+use Rattle.can_turns.specs.Turns as CanTurns
 use Rattle.new_gate.specs.New as New
 use Rattle.definition.specs.Gate as Gate
 use Rattle.definition.specs.Gate.{Call, onQueue, onCore, step}
@@ -84,7 +85,7 @@ pub record Examples : Type 0 where
   pub secondUntil : turnsUntil 7 (allTook first calls .places) ≡ 7
 
 pub examples : Examples
-unfolding padded joined allOf someOf idBytes idInRange idOf idsIn listInRange listOf phonesOf tooLong twice carOf laidCar emptyCar carsOf storeOf Running.methodAt Running.cleanMethod Running.inProgress checked Replies.leave Replies.quiet Replies.reply view carInRange storeInRange Range.within Range.settingsFit Range.printable Range.methodFits Range.allFit Range.methodsIn Range.methodsFit Range.triesFit Range.sessionFits Range.windowFits Range.coreFits Range.saveFits Range.queueFits Range.inRange Save.noSave Tx.allow Can.noteLogging Queue.waitingOf Queue.oldestOn Queue.hasOne Queue.firstThat Queue.nextBus Queue.nextPlace Queue.moved Queue.closedUp Queue.withOne Before.before Before.follow CanQueue.sending CanQueue.turn CanQueue.turns CanQueue.turnsTaken CanQueue.serving CanQueue.reportOf New.newMethods New.newCore New.madeCore New.newGate Gate.saying Gate.served Gate.queueing Gate.said Gate.says Gate.left Gate.gives step
+unfolding padded joined allOf someOf idBytes idInRange idOf idsIn listInRange listOf phonesOf tooLong twice carOf laidCar emptyCar carsOf storeOf Running.methodAt Running.cleanMethod Running.inProgress checked Replies.leave Replies.quiet Replies.reply view carInRange storeInRange Range.within Range.settingsFit Range.printable Range.methodFits Range.allFit Range.methodsIn Range.methodsFit Range.triesFit Range.sessionFits Range.windowFits Range.coreFits Range.saveFits Range.queueFits Range.inRange Save.noSave Tx.allow Can.noteLogging Queue.waitingOf Queue.oldestOn Queue.hasOne Queue.firstThat Queue.nextBus Queue.nextPlace Queue.moved Queue.closedUp Queue.withOne Before.before Before.follow CanQueue.sending CanTurns.turn CanTurns.turns CanTurns.turnsTaken CanTurns.serving CanTurns.reportOf New.newMethods New.newCore New.madeCore New.newGate Gate.saying Gate.served Gate.queueing Gate.said Gate.says Gate.left Gate.gives step
 examples = record {
   serves = record { ranged = refl; sixteen = refl };
   waits = omega arith;

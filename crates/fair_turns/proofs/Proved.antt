@@ -24,7 +24,7 @@ use Rattle.state.specs.Replies.{nothingRaised, noSignals}
 use Rattle.state.specs.View.{view, listsIn}
 use Rattle.range.specs.Range.{inRange}
 use Rattle.answers.specs.Query.{report}
-use Rattle.can_queue.specs.Calls.{Serving, turn, turns, turnsTaken, serving, noDecision, reportOf}
+use Rattle.can_turns.specs.Turns.{Serving, turn, turns, turnsTaken, serving, noDecision, reportOf}
 use Rattle.definition.specs.Gate.{PackedReply, Says, laidReply, queueing, says, left, gives, step}
 use Rattle.footprint.proofs.Keeps.{either}
 use Rattle.stays_in_range.specs.Stays.{InRange}

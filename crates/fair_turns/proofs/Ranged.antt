@@ -31,7 +31,7 @@ use Rattle.probe_window.specs.declared.Unsent.the-variants.{At, Nothing}
 use Rattle.probe_window.specs.Window.{markedSent}
 use Rattle.phone_trust.specs.Trust.{isPaired, isValidated}
 use Rattle.can_tx.specs.Tx as Tx
-use Rattle.can_queue.specs.Calls.{Serving, ownerValidated, turn}
+use Rattle.can_turns.specs.Turns.{Serving, ownerValidated, turn}
 use Rattle.definition.specs.Gate.{saying, served, said, says, left, gives, step}
 use Rattle.footprint.specs.Footprint.{probe}
 use Rattle.footprint.proofs.Keeps.{either, each-check}

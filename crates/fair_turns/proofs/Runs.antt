@@ -17,8 +17,8 @@ use Rattle.state.specs.Answers.{numbered}
 use Rattle.state.specs.Replies.{nothingRaised, noSignals}
 use Rattle.state.specs.View.{Lists, view, listsIn}
 use Rattle.answers.specs.Query.{report}
-use Rattle.can_queue.specs.Calls.{Serving, turn, turns, turnsTaken, noTurn, serving, noDecision, reportOf}
-use Rattle.can_queue.proofs.Laws.{turns-decide}
+use Rattle.can_turns.specs.Turns.{Serving, turn, turns, turnsTaken, noTurn, serving, noDecision, reportOf}
+use Rattle.can_turns.proofs.Laws.{turns-decide}
 use Rattle.definition.specs.Gate.{PackedReply, queueing, says, records, Given, left, gives, step}
 use Rattle.fair_turns.specs.Turns.{Host, countOf, listAfter, TakesTurns, serve, reportIn, entries, beforeTurn}
 use Rattle.fair_turns.proofs.Ranged.{hostOf, entryOf, turn-ranged}

@@ -18,7 +18,7 @@ use Rattle.state.specs.declared.Decided.{Decided}
 use Rattle.state.specs.declared.Gate.{Gate}
 use Rattle.state.specs.declared.Queue.{Queue}
 use Rattle.state.specs.View.{listsIn}
-use Rattle.can_queue.specs.Calls.{Serving, turn, noDecision}
+use Rattle.can_turns.specs.Turns.{Serving, turn, noDecision}
 use Rattle.fair_turns.specs.Turns.{Host, nextOf}
 use Rattle.fair_turns.specs.Fair.{Took, noTurns, joined, turnsUntil}
 use Rattle.fair_turns.proofs.Ranged.{hostOf, entryOf}

@@ -9,7 +9,7 @@ use Rattle.waiting_list.specs.declared.Waiting.{Waiting}
 use Rattle.waiting_list.specs.Queue.{recordAt, busOf, underBus}
 use Rattle.waiting_list.specs.Fair.{before, follow}
 use Rattle.state.specs.declared.Decided.{Decided}
-use Rattle.can_queue.specs.Calls.{noDecision}
+use Rattle.can_turns.specs.Turns.{noDecision}
 use Rattle.definition.specs.Gate.{QueueCall, sendCanFrame, serveCanFrames, Call, newGateCall, startValidation, submitValidationCode, onSession, onLists, onSave, onQueue, onCore, ask, Lent, nothing, bytes, records, lentTo}
 use Rattle.fair_turns.specs.Turns.{Host, countOf, hostAfter, TakesTurns, reported, entries, serve, beforeTurn, nextOf}
 

@@ -20,7 +20,7 @@ use Rattle.state.specs.Answers.{numbered, isYes}
 use Rattle.state.specs.Replies.{noSignals}
 use Rattle.state.specs.View.{view}
 use Rattle.range.specs.Range.{inRange}
-use Rattle.can_queue.specs.Calls.{turnsTaken, noDecision, reportOf}
+use Rattle.can_turns.specs.Turns.{turnsTaken, noDecision, reportOf}
 use Rattle.answers.specs.Query as Query
 use Rattle.definition.specs.Gate.{PackedReply, Call, onQueue, serveCanFrames, onCore, allowCanTx, Lent, nothing, bytes, records, Given, step, after}
 use Rattle.stays_in_range.specs.Stays.{InRange}

@@ -7,7 +7,7 @@ use Rattle.waiting_list.specs.declared.Waiting.{Waiting}
 use Rattle.state.specs.declared.Core.{Core}
 use Rattle.state.specs.declared.Queue.{Queue}
 use Rattle.state.specs.View.{Lists}
-use Rattle.can_queue.specs.Calls.{Serving, turn, turns, serving}
+use Rattle.can_turns.specs.Turns.{Serving, turn, turns, serving}
 use Rattle.footprint.specs.Footprint.{Part, inCore, probe}
 use Rattle.footprint.proofs.Keeps.{mixed, Keeps, unchanged}
 use Rattle.footprint.proofs.Core.{allow-keeps}

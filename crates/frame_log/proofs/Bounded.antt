@@ -12,14 +12,14 @@ use lib.Seq.{length-take-le, take-nil, take-take}
 use Rattle.decimal.proofs.Laws.{decimal-length}
 use Rattle.hex.proofs.Laws.{hex-length}
 use Rattle.frames.specs.Frames.{rawOf}
-use Rattle.matcher.specs.Match.{Entry, entry}
-use Rattle.frame_log.specs.declared.LineEntry.{LineEntry}
-use Rattle.frame_log.specs.Lines.{joined, lineOf, InForm}
-use Rattle.frame_log.specs.Guess.{readLine}
+use Rattle.log_entries.specs.Entries.{Entry, entry}
+use Rattle.frame_lines.specs.declared.LineEntry.{LineEntry}
+use Rattle.frame_lines.specs.Lines.{joined, lineOf, InForm}
+use Rattle.frame_lines.specs.Guess.{readLine}
 use Rattle.frame_log.specs.Logs.{linesOf, Reading, badLine, lineRead, readFrom, reading}
-use Rattle.frame_log.specs.Walk.{lineLength}
-use Rattle.frame_log.proofs.Pages.{hex-short, kind-length}
-use Rattle.frame_log.proofs.Theorems.{only-lines, only-in-form}
+use Rattle.frame_log.specs.Logs.{lineLength}
+use Rattle.frame_lines.proofs.Pages.{hex-short, kind-length}
+use Rattle.frame_lines.proofs.Theorems.{only-lines, only-in-form}
 use Rattle.frame_log.proofs.Reading.{line-le, line-some, lines-first}
 
 -- ---- a line has at most 81 bytes

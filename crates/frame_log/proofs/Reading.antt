@@ -13,15 +13,15 @@ use lib.Seq.{drop-drop}
 use Rattle.arrays.specs.Arrays.{padded}
 use Rattle.arrays.proofs.Laws.{padded-push}
 use Rattle.frames.specs.declared.CanFrame.{CanFrame}
-use Rattle.matcher.specs.Match.{Entry, entry}
+use Rattle.log_entries.specs.Entries.{Entry, entry}
 use Rattle.word_table.specs.Words.{before, onto}
-use Rattle.frame_log.specs.declared.LineEntry.{LineEntry}
+use Rattle.frame_lines.specs.declared.LineEntry.{LineEntry}
 use Rattle.frame_log.specs.declared.LogAnswer.the-variants.{Read, BadLine, TimeBack, TooManyLines}
 use Rattle.frame_log.specs.declared.ReadLog.{ReadLog}
-use Rattle.frame_log.specs.Guess.{emptyFrame, readLine}
+use Rattle.frame_lines.specs.Guess.{emptyFrame, readLine}
 use Rattle.frame_log.specs.Logs.{linesOf, Reading, also, lineRead, readFrom, reading, timeOf, frameOf, logOf, logRead, byValue, readLog}
 use Rattle.frame_log.specs.Logs.Reading.{read, badLine, timeBack, tooManyLines}
-use Rattle.frame_log.specs.Walk.{lineLength}
+use Rattle.frame_log.specs.Logs.{lineLength}
 
 -- ---- the first line
 

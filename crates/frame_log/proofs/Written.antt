@@ -13,15 +13,15 @@ use Rattle.hex.specs.Hex.{hexOf}
 use Rattle.frames.specs.Frames.{rawOf}
 use Rattle.frames.specs.declared.Id.{Id}
 use Rattle.frames.specs.declared.Id.the-variants.{Standard, Extended}
-use Rattle.matcher.specs.Match.{Entry}
+use Rattle.log_entries.specs.Entries.{Entry}
 use Rattle.matcher.proofs.Times.{Rising}
 use Rattle.word_table.specs.Words.{before, onto}
-use Rattle.frame_log.specs.Lines.{joined, hexadecimalOf, kindOf, lineOf, InForm}
+use Rattle.frame_lines.specs.Lines.{joined, hexadecimalOf, kindOf, lineOf, InForm}
 use Rattle.frame_log.specs.Logs.{linesOf, read, lineRead, readFrom, reading}
-use Rattle.frame_log.proofs.Pages.{joined-append}
-use Rattle.frame_log.proofs.Words.{Without, without-append}
-use Rattle.frame_log.proofs.Numbers.{decimal-free, hex-free, bytes-free}
-use Rattle.frame_log.proofs.Theorems.{every-line}
+use Rattle.frame_lines.proofs.Pages.{joined-append}
+use Rattle.frame_lines.proofs.Words.{Without, without-append}
+use Rattle.frame_lines.proofs.Numbers.{decimal-free, hex-free, bytes-free}
+use Rattle.frame_lines.proofs.Theorems.{every-line}
 
 -- ---- the first line of a text
 

@@ -1,4 +1,1 @@
-pub mod Lines
-pub mod Guess
 pub mod Logs
-pub mod Walk

@@ -6,14 +6,14 @@ use lib.Dec.{eqb, ltb}
 use lib.ListN.{length}
 use Rattle.arrays.specs.Arrays.{padded}
 use Rattle.frames.specs.declared.CanFrame.{CanFrame}
-use Rattle.matcher.specs.Match.{Entry, entry}
+use Rattle.log_entries.specs.Entries.{Entry, entry}
 use Rattle.matcher.specs.declared.FrameLog.{FrameLog}
 use Rattle.word_table.specs.Words.{onto}
-use Rattle.frame_log.specs.declared.LineEntry.{LineEntry}
+use Rattle.frame_lines.specs.declared.LineEntry.{LineEntry}
 use Rattle.frame_log.specs.declared.LogAnswer.{LogAnswer}
 use Rattle.frame_log.specs.declared.LogAnswer.the-variants.{Read, BadLine, TimeBack, TooManyLines}
 use Rattle.frame_log.specs.declared.ReadLog.{ReadLog}
-use Rattle.frame_log.specs.Guess.{emptyFrame, readLine}
+use Rattle.frame_lines.specs.Guess.{emptyFrame, readLine}
 
 -- the lines of a text: each ends behind its byte 10, and what stands behind the last is a line without it
 unfoldable pub linesOf : List ℕ → List (List ℕ)
@@ -73,3 +73,8 @@ byValue tooManyLines = logRead TooManyLines []
 
 unfoldable pub readLog : List ℕ → ReadLog
 readLog s = byValue (reading s)
+
+-- how many bytes the first line of a text has
+unfoldable pub lineLength : List ℕ → ℕ
+lineLength [] = 0
+lineLength (x ∷ xs) = cond (eqb x 10) 1 (suc (lineLength xs))

@@ -45,7 +45,7 @@ pub fn forget_phone_validation(g: Gate, id: &[u8]) -> Outcome
     ensures { λ r. ⌜ given r ≡ step g (onLists (forgetPhoneValidation (now (id .entry)))) ⌝ }
 {
     let phones = g.phones;
-    let x = validations::forget_phone_validation(phones, id);
+    let x = forget_validations::forget_phone_validation(phones, id);
     let told = outcomes::listed_on(g, x);
     outcomes::listed(g, told)
 }
@@ -54,7 +54,7 @@ pub fn prune_phone_validations(g: Gate) -> Outcome
     ensures { λ r. ⌜ given r ≡ step g (onLists prunePhoneValidations) ⌝ }
 {
     let phones = g.phones;
-    let x = validations::prune_phone_validations(phones);
+    let x = forget_validations::prune_phone_validations(phones);
     let told = outcomes::listed_on(g, x);
     outcomes::listed(g, told)
 }
@@ -65,7 +65,7 @@ fn restored(g: Gate, bytes: &[u8]) -> Listed
 {
     let phones = g.phones;
     if range::in_range(g) {
-        return validations::restore_phone_validations(phones, bytes);
+        return restore_validations::restore_phone_validations(phones, bytes);
     }
     outcomes::lists_out_of_range(phones)
 }

@@ -15,9 +15,11 @@ use Rattle.state.specs.Replies.{nothingRaised, noSignals}
 use Rattle.state.specs.View.{view, listsIn}
 use Rattle.range.specs.Range.{inRange}
 use Rattle.answers.specs.Query.{plain, report}
-use Rattle.can_queue.specs.Calls.{Sending, unsent, sending, Serving, noTurn, serving, reportOf}
-use Rattle.can_queue.specs.Steps.{runOf}
-use Rattle.can_queue.proofs.Laws.{sending-other, serving-other}
+use Rattle.can_queue.specs.Calls.{Sending, unsent, sending}
+use Rattle.can_turns.specs.Turns.{Serving, noTurn, serving, reportOf}
+use Rattle.can_turns.specs.Steps.{runOf}
+use Rattle.can_queue.proofs.Laws.{sending-other}
+use Rattle.can_turns.proofs.Laws.{serving-other}
 use Rattle.definition.specs.Gate.{sendCanFrame, serveCanFrames, onQueue, records, Says, ofSending, ofServing, asked, served, queueing, says, gives, left, packed, step, lentRecords, ranGiven}
 use Rattle.outcomes.specs.Settled.{queued}
 use Rattle.outcomes.proofs.Laws.{lent-as}

@@ -14,9 +14,11 @@ use Rattle.state.specs.declared.Ran.{Ran}
 use Rattle.state.specs.View.{view, listsIn}
 use Rattle.range.specs.Range.{inRange}
 use Rattle.can_queue.specs.declared.Sent.{Sent}
-use Rattle.can_queue.specs.declared.Run.{Run}
-use Rattle.can_queue.specs.Calls.{Sending, unsent, sending, noTurn, serving, reportOf}
-use Rattle.can_queue.specs.Steps.{sentBy, runOf}
+use Rattle.can_turns.specs.declared.Run.{Run}
+use Rattle.can_queue.specs.Calls.{Sending, unsent, sending}
+use Rattle.can_turns.specs.Turns.{noTurn, serving, reportOf}
+use Rattle.can_queue.specs.Steps.{sentBy}
+use Rattle.can_turns.specs.Steps.{runOf}
 use Rattle.outcomes.specs.Settled.{queued}
 use Rattle.gate_queue.specs.declared.SentOn.{SentOn}
 use Rattle.gate_queue.specs.declared.RanOn.{RanOn}

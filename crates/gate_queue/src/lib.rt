@@ -2,8 +2,8 @@
 // and state by value out. The promises of the two calls are equations with `step` of definition/specs/Gate.antt, for every gate and every
 // list that is lent; those of their parts, which have the sixteen records by value, with specs/Given.antt. The two calls, and `load` and
 // `store` of waiting_list, alone see the lent list.
-use can_queue::Run;
 use can_queue::Sent;
+use can_turns::Run;
 use frames::CanFrame;
 use frames::TxClass;
 use state::Answer;
@@ -138,10 +138,10 @@ pub fn serve_sixteen(g: Gate, all: [Waiting; 16], turns: u32, clock: u64) -> Ran
     let queue = g.queue;
     if range::in_range(g) {
         let phones = g.phones;
-        let x = can_queue::serve_can_frames(core, phones, queue, all, turns, clock);
+        let x = can_turns::serve_can_frames(core, phones, queue, all, turns, clock);
         return ran_on(g, Answer::Done, x);
     }
-    let x = can_queue::no_turn(core, queue, all);
+    let x = can_turns::no_turn(core, queue, all);
     ran_on(g, Answer::BadSettings, x)
 }
 
@@ -151,7 +151,7 @@ pub fn serve_none(g: Gate) -> Ran
 {
     let core = g.core;
     let queue = g.queue;
-    let report = can_queue::no_report();
+    let report = can_turns::no_report();
     if range::in_range(g) {
         let outcome = outcomes::queued(g, Answer::Done, core, queue);
         return Ran { outcome, report };

@@ -90,7 +90,7 @@ pub fn cancel_validation(g: Gate, phone: &[u8], clock: u64) -> Outcome
     ensures { λ r. ⌜ given r ≡ step g (onSession (cancelValidation (now (phone .entry)) clock)) ⌝ }
 {
     let core = g.core;
-    let said = validation::calls::cancel_validation(core, phone, clock);
+    let said = complete::cancel_validation(core, phone, clock);
     let e = validation::ends::unvalidated(said);
     let told = outcomes::ended_on(g, e);
     outcomes::ended(g, told)
@@ -101,7 +101,7 @@ pub fn complete_validation_action_at(g: Gate, number: u32, clock: u64) -> Outcom
 {
     let core = g.core;
     let full = full_for(g);
-    let e = validation::calls::complete_validation_action_at(core, number, clock, full);
+    let e = complete::complete_validation_action_at(core, number, clock, full);
     let told = outcomes::ended_on(g, e);
     outcomes::ended(g, told)
 }
@@ -110,7 +110,7 @@ pub fn tick_validation(g: Gate, clock: u64) -> Outcome
     ensures { λ r. ⌜ given r ≡ step g (onSession (tickValidation clock)) ⌝ }
 {
     let core = g.core;
-    let said = validation::calls::tick_validation(core, clock);
+    let said = validation::ends::tick_validation(core, clock);
     let e = validation::ends::unvalidated(said);
     let told = outcomes::ended_on(g, e);
     outcomes::ended(g, told)

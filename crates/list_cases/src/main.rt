@@ -86,7 +86,7 @@ fn put_car(dst: &mut [u8], at: usize, digest: u8, n: u8, len: u8) -> usize
 }
 
 fn show_number(input: &[u8]) {
-    let read = saved_record::decode_phone_validations(input);
+    let read = decode_record::decode_phone_validations(input);
     let answer = read.answer;
     match answer {
         RecordVerdict::Restored => io::write_all(STDOUT_FILENO, b"number=0\n"),

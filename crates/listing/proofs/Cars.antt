@@ -1,41 +1,33 @@
--- The lines of a car, one after the other, and those of all cars.
+-- The lines of all cars, one after the other.
 use mathlib.Core.Path.{_≡_, refl, _∙_}
 use mathlib.Core.List.{List, [], _++_}
 use Prim.Native.Nat.{ℕ, _+_, _≤_, _<_}
+use native.Mathlib.Nat.{zero-add}
 use native.Mathlib.Numerals.{add-one}
 use native.Mathlib.Omega.{arith}
 use lib.ListN.{length, drop, getD, replicate, drop-of-length-le, length-append, length-replicate}
 use lib.Seq.{drop-cons}
+use Rattle.arrays.specs.Arrays.{padded}
+use Rattle.arrays.proofs.Laws.{put-padded}
 use Rattle.ascii.specs.Ascii.{ascii}
-use Rattle.decimal.specs.Decimal.{decimalOf}
-use Rattle.hex.specs.Hex.{hexOf}
 use Rattle.saved_record.specs.SavedRecord.{CarIds, carPart, carParts}
+use Rattle.car_lines.specs.Lines.{line, carLines}
+use Rattle.car_lines.specs.Walk.{Wrote, Stands}
 use Rattle.listing.specs.declared.Listing.{Listing}
-use Rattle.listing.specs.Listing.{line, phoneLines, carLines, eachCar, acceptedLines, listed}
-use Rattle.listing.specs.Walk.{Wrote, Stands}
-use Rattle.listing.proofs.Laws.{wrote-more, wrote-listed}
-use Rattle.listing.proofs.Walk.{Going, going-first, going-fits, going-on, going-done, stands-first, stands-next}
+use Rattle.listing.specs.Listing.{eachCar, acceptedLines, listed}
+use Rattle.car_lines.proofs.Walk.{Going, going-first, going-fits, going-on, going-done, stands-first, stands-next}
 
--- ---- a car
+-- ---- a listing
 
-pub lines-parts : (c : CarIds)
-    → length (carLines c) ≡ length (line (ascii "car=") (hexOf (c .car))) + length (line (ascii "phones=") (decimalOf (length (c .phones)))) + length (phoneLines (c .phones))
-unfolding carLines
-lines-parts c =
-    let a₁ = line (ascii "car=") (hexOf (c .car)) in
-    let a₂ = line (ascii "phones=") (decimalOf (length (c .phones))) in
-    omega (arith, length-append (a₁ ++ a₂) (phoneLines (c .phones)), length-append a₁ a₂)
-
-pub car-written : (dst : List ℕ) (at : ℕ) (c : CarIds) (d₁ d₂ d₃ : List ℕ) (e₁ e₂ e₃ : ℕ)
-    → Wrote dst at (line (ascii "car=") (hexOf (c .car))) d₁ e₁ → Wrote d₁ e₁ (line (ascii "phones=") (decimalOf (length (c .phones)))) d₂ e₂ → Wrote d₂ e₂ (phoneLines (c .phones)) d₃ e₃
-    → at + length (carLines c) ≤ length dst → Wrote dst at (carLines c) d₃ e₃
-unfolding carLines
-car-written dst at c d₁ d₂ d₃ e₁ e₂ e₃ w₁ w₂ w₃ h =
-    let x₁ = line (ascii "car=") (hexOf (c .car)) in
-    let x₂ = line (ascii "phones=") (decimalOf (length (c .phones))) in
-    let x₃ = phoneLines (c .phones) in
-    let l = length-append (x₁ ++ x₂) x₃ in
-    wrote-more dst at (x₁ ++ x₂) d₂ e₂ x₃ d₃ e₃ (wrote-more dst at x₁ d₁ e₁ x₂ d₂ e₂ w₁ w₂ (omega arith)) w₃ h
+-- what is written into zeros is a listing
+pub wrote-listed : (text bytes : List ℕ) (len : ℕ) → Wrote (replicate {A = ℕ} 9414 0) 0 text bytes len → _≡_ {A = Listing} (record { bytes = bytes; len = len }) (listed text)
+unfolding listed padded
+wrote-listed text bytes len w =
+    let l : len ≡ length text = w .place ∙ zero-add (length text) in
+    rw (w .bytes, zeros, put-padded 9414 0 [] text, l)
+  where
+    zeros : replicate {A = ℕ} 9414 0 ≡ padded 9414 0 []
+    zeros = refl
 
 -- ---- the cars, one after the other
 

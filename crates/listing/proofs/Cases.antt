@@ -6,7 +6,8 @@ use Rattle.ascii.specs.Ascii.{ascii}
 use Rattle.decimal.specs.Decimal.{digitsUpTo, decimalOf}
 use Rattle.hex.specs.Hex.{digit, hexOf}
 use Rattle.saved_record.proofs.Cases.{theRecord, p12, p13}
-use Rattle.listing.specs.Listing.{line, phoneLines, carLines, eachCar, acceptedLines, refusedLines, linesOf, lines}
+use Rattle.car_lines.specs.Lines.{line, phoneLines, carLines}
+use Rattle.listing.specs.Listing.{eachCar, acceptedLines, refusedLines, linesOf, lines}
 
 pub p12-lines : lines theRecord ≡ ascii "answer=ok\ncar=1111111111111111111111111111111111111111111111111111111111111111\nphones=1\nphone=a1b2\n"
 unfolding lines linesOf acceptedLines eachCar carLines phoneLines line hexOf digit decimalOf digitsUpTo

@@ -25,11 +25,13 @@ use Rattle.saved_record.proofs.Laws.{cars-of-store}
 use Rattle.saved_record.proofs.Parts.{Digests}
 use Rattle.saved_record.proofs.RoundTrip.{Versions, one, two, accepted-well-formed}
 use Rattle.listing.specs.declared.Listing.{Listing}
-use Rattle.listing.specs.Listing.{line, phoneLines, carLines, eachCar, acceptedLines, refusedLines, linesOf, lines, listed, listingOf}
-use Rattle.listing.specs.Walk.{Stands, firstCar}
-use Rattle.listing.proofs.Cars.{lines-parts}
-use Rattle.listing.proofs.Laws.{line-length}
-use Rattle.listing.proofs.Walk.{stands-last}
+use Rattle.car_lines.specs.Lines.{line, phoneLines, carLines}
+use Rattle.listing.specs.Listing.{eachCar, acceptedLines, refusedLines, linesOf, lines, listed, listingOf}
+use Rattle.car_lines.specs.Walk.{Stands}
+use Rattle.listing.specs.Steps.{firstCar}
+use Rattle.car_lines.proofs.Car.{lines-parts}
+use Rattle.car_lines.proofs.Laws.{line-length}
+use Rattle.car_lines.proofs.Walk.{stands-last}
 
 -- ---- the lengths
 

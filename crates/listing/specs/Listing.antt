@@ -6,23 +6,9 @@ use lib.Dec.{ltb}
 use lib.ListN.{length}
 use Rattle.arrays.specs.Arrays.{padded}
 use Rattle.ascii.specs.Ascii.{ascii}
-use Rattle.decimal.specs.Decimal.{decimalOf}
-use Rattle.hex.specs.Hex.{hexOf}
 use Rattle.saved_record.specs.SavedRecord.{CarIds, Reading, malformed, carTwice, tooLarge, ok, decoded}
+use Rattle.car_lines.specs.Lines.{line, carLines}
 use Rattle.listing.specs.declared.Listing.{Listing}
-
--- "Each line ends with byte 10."
-unfoldable pub line : List ℕ → List ℕ → List ℕ
-line name value = name ++ value ++ (10 ∷ [])
-
--- "one line per id, in lower hexadecimal"
-unfoldable pub phoneLines : List (List ℕ) → List ℕ
-phoneLines [] = []
-phoneLines (p ∷ ps) = line (ascii "phone=") (hexOf p) ++ phoneLines ps
-
--- "the digest, the count and one line per id"
-unfoldable pub carLines : CarIds → List ℕ
-carLines c = line (ascii "car=") (hexOf (c .car)) ++ line (ascii "phones=") (decimalOf (length (c .phones))) ++ phoneLines (c .phones)
 
 -- "repeats its car, phones and phone lines for each car"
 unfoldable pub eachCar : List CarIds → List ℕ

@@ -12,14 +12,15 @@ use Rattle.arrays.specs.Arrays.{padded}
 use Rattle.arrays.proofs.Laws.{padded-take, padded-length}
 use Rattle.decimal.proofs.Laws.{decimal-length}
 use Rattle.frame_log.specs.declared.ReadLog.{ReadLog}
-use Rattle.frame_log.specs.Guess.{emptyFrame, readLine}
-use Rattle.frame_log.specs.Lines.{joined}
+use Rattle.frame_lines.specs.Guess.{emptyFrame, readLine}
+use Rattle.frame_lines.specs.Lines.{joined}
 use Rattle.frame_log.specs.Logs.{linesOf, Reading, read, badLine, timeBack, tooManyLines, also, lineRead, readFrom, reading, timeOf, frameOf, logOf, logRead, byValue, readLog}
-use Rattle.frame_log.specs.Walk.{Laid, lay}
+use Rattle.frame_lines.specs.Walk.{Laid, lay}
 use Rattle.frame_log.proofs.Bounded.{first-bytes}
-use Rattle.frame_log.proofs.Pages.{laid-text, laid-all}
-use Rattle.replay_lines.specs.Page.{Page, text}
-use Rattle.matcher.specs.Match.{Entry, entry, paired, entriesOf, wrongSize, fallFrom, firstFall, matchOf, verdict}
+use Rattle.frame_lines.proofs.Pages.{laid-text, laid-all}
+use Rattle.replay_page.specs.Page.{Page, text}
+use Rattle.log_entries.specs.Entries.{Entry, entry}
+use Rattle.matcher.specs.Match.{paired, entriesOf, wrongSize, fallFrom, firstFall, matchOf, verdict}
 use Rattle.matcher.specs.declared.Found.the-variants.{Nothing}
 use Rattle.matcher.specs.declared.Log.{Log}
 use Rattle.matcher.specs.declared.Log.the-variants.{Journal, Recorder}

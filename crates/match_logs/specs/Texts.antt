@@ -4,11 +4,12 @@ use mathlib.Core.List.{List, [], _∷_, _++_}
 use Prim.Native.Nat.{ℕ, _<_}
 use Rattle.ascii.specs.Ascii.{ascii}
 use Rattle.decimal.specs.Decimal.{decimalOf}
-use Rattle.frame_log.specs.Lines.{joined}
+use Rattle.frame_lines.specs.Lines.{joined}
 use Rattle.frame_log.specs.Logs.{Reading, read, badLine, timeBack, tooManyLines, reading}
 use Rattle.frame_log.specs.declared.LogAnswer.{LogAnswer}
 use Rattle.frame_log.specs.declared.LogAnswer.the-variants.{Read, BadLine, TimeBack, TooManyLines}
-use Rattle.matcher.specs.Match.{Entry, verdict}
+use Rattle.log_entries.specs.Entries.{Entry}
+use Rattle.matcher.specs.Match.{verdict}
 use Rattle.matcher.specs.declared.Log.{Log}
 use Rattle.matcher.specs.declared.Log.the-variants.{Journal, Recorder}
 use Rattle.matcher.specs.declared.MatchAnswer.{MatchAnswer}

@@ -7,8 +7,8 @@ ghost use mathlib.Core.List.{[], _∷_};
 ghost use lib.ListN.{length};
 ghost use Rattle.ascii.specs.Ascii.{ascii};
 ghost use Rattle.decimal.specs.Decimal.{decimalOf};
-ghost use Rattle.replay_lines.specs.Page.{page, text};
-ghost use Rattle.frame_log.specs.Walk.{Laid, lay};
+ghost use Rattle.replay_page.specs.Page.{page, text};
+ghost use Rattle.frame_lines.specs.Walk.{Laid, lay};
 ghost use Rattle.match_logs.specs.Texts.{matchTexts, isRead, faultOf, Small, logName, words, answerLine};
 
 fn is_read(answer: LogAnswer) -> bool
@@ -38,10 +38,10 @@ fn fault_of(log: Log, answer: LogAnswer) -> MatchAnswer
 pub fn match_texts(journal: &[u8], recorder: &[u8]) -> MatchAnswer
     ensures { λ r. ⌜ r ≡ matchTexts (now (journal .entry)) (now (recorder .entry)) ⌝ }
 {
-    let j = frame_log::log::read_log(journal);
+    let j = frame_log::read_log(journal);
     let sent = j.answer;
     if is_read(sent) {
-        let r = frame_log::log::read_log(recorder);
+        let r = frame_log::read_log(recorder);
         let seen = r.answer;
         if is_read(seen) {
             let a = j.log;
@@ -61,8 +61,8 @@ fn put_log(out: &mut [u8], at: usize, log: Log) -> usize
     ensures { λ r. ⌜ page (now (out .exit)) r ≡ text (logName log) (page (now (out .entry)) at) ⌝ }
 {
     match log {
-        Log::Journal => replay_lines::put_text(out, at, b" log=journal"),
-        Log::Recorder => replay_lines::put_text(out, at, b" log=recorder"),
+        Log::Journal => replay_page::put_text(out, at, b" log=journal"),
+        Log::Recorder => replay_page::put_text(out, at, b" log=recorder"),
     }
 }
 
@@ -70,15 +70,15 @@ fn put_log(out: &mut [u8], at: usize, log: Log) -> usize
 fn put_fault(out: &mut [u8], name: &[u8], log: Log, line: usize) -> usize
     ensures { λ r. ⌜ page (now (out .exit)) r ≡ lay (now (name .entry) ∷ logName log ∷ ascii " line=" ∷ decimalOf line ∷ []) (page (now (out .entry)) 0) ⌝ }
 {
-    let k = replay_lines::put_text(out, 0, name);
+    let k = replay_page::put_text(out, 0, name);
     let k = put_log(out, k, log);
-    replay_lines::put_item(out, k, b" line=", line as u64)
+    replay_page::put_item(out, k, b" line=", line as u64)
 }
 
 fn put_over(out: &mut [u8], log: Log) -> usize
     ensures { λ r. ⌜ page (now (out .exit)) r ≡ lay (ascii "answer=38/TooManyLines" ∷ logName log ∷ []) (page (now (out .entry)) 0) ⌝ }
 {
-    let k = replay_lines::put_text(out, 0, b"answer=38/TooManyLines");
+    let k = replay_page::put_text(out, 0, b"answer=38/TooManyLines");
     put_log(out, k, log)
 }
 
@@ -87,8 +87,8 @@ fn put_words(out: &mut [u8], answer: MatchAnswer) -> usize
     ensures { λ r. ⌜ (page (now (out .exit)) r ≡ lay (words answer) (page (now (out .entry)) 0)) × Small answer ⌝ }
 {
     match answer {
-        MatchAnswer::Matched => replay_lines::put_text(out, 0, b"answer=yes"),
-        MatchAnswer::StopsAt(n) => replay_lines::put_item(out, 0, b"answer=no line=", n as u64),
+        MatchAnswer::Matched => replay_page::put_text(out, 0, b"answer=yes"),
+        MatchAnswer::StopsAt(n) => replay_page::put_item(out, 0, b"answer=no line=", n as u64),
         MatchAnswer::BadLine(log, n) => put_fault(out, b"answer=36/BadLine", log, n),
         MatchAnswer::TimeBack(log, n) => put_fault(out, b"answer=37/TimeBack", log, n),
         MatchAnswer::TooManyLines(log) => put_over(out, log),
@@ -101,5 +101,5 @@ pub fn put_answer(out: &mut [u8], answer: MatchAnswer) -> usize
     ensures { λ r. ⌜ (page (now (out .exit)) r ≡ text (10 ∷ []) (lay (words answer) (page (now (out .entry)) 0))) × Laid 64 (page (now (out .exit)) r) (answerLine answer) ⌝ }
 {
     let k = put_words(out, answer);
-    replay_lines::put_text(out, k, b"\n")
+    replay_page::put_text(out, k, b"\n")
 }

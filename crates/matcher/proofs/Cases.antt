@@ -11,8 +11,8 @@ use Rattle.matcher.specs.declared.Log.the-variants.{Journal, Recorder}
 use Rattle.matcher.specs.declared.MatchAnswer.{MatchAnswer}
 use Rattle.matcher.specs.declared.MatchAnswer.the-variants.{Matched, StopsAt, TimeBack, TooManyLines}
 use Rattle.arrays.specs.Arrays.{sameBytes}
-use Rattle.matcher.specs.Frames.{sameFrame}
-use Rattle.matcher.specs.Match.{paired, entriesOf, fits, someBelow, allFree, without, canTake, explains, firstAt, verdict, wrongSize, fallFrom, firstFall, matchOf}
+use Rattle.log_entries.specs.Entries.{sameFrame, fits}
+use Rattle.matcher.specs.Match.{paired, entriesOf, someBelow, allFree, without, canTake, explains, firstAt, verdict, wrongSize, fallFrom, firstFall, matchOf}
 
 abbrev frame : Id → CanFrame
 frame i = record { bus = 1; id = i; «data» = 1 ∷ 2 ∷ 3 ∷ 4 ∷ 5 ∷ 6 ∷ 7 ∷ 8 ∷ []; dlc = 8 }

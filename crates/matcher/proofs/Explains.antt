@@ -9,10 +9,11 @@ use borrow.Author.Tests.{eq-eqb, ne-eqb, le-leb, leb-true, ltb-true, ltb-false}
 use lib.Dec.{eqb, ltb}
 use lib.ListN.{length, getD}
 use Rattle.matcher.specs.declared.Found.the-variants.{Nothing}
-use Rattle.matcher.specs.Match.{Entry, noEntry, fits, without, canTake, explains}
+use Rattle.log_entries.specs.Entries.{Entry, fits}
+use Rattle.matcher.specs.Match.{noEntry, without, canTake, explains}
 use Rattle.matcher.specs.Greedy.{firstFit}
 use Rattle.arrays.proofs.Laws.{both}
-use Rattle.matcher.proofs.Frames.{frame-is}
+use Rattle.log_entries.proofs.Frames.{frame-is}
 use Rattle.matcher.proofs.Places.{decide, same-truth, not-truth, some-of, some-at, First, first-none}
 use Rattle.matcher.proofs.Times.{Rising, Since, rising-since, rising-at}
 

@@ -16,7 +16,8 @@ use Rattle.matcher.specs.declared.FrameLog.{FrameLog}
 use Rattle.matcher.specs.declared.Found.{Found}
 use Rattle.matcher.specs.declared.Found.the-variants.{At, Nothing}
 use Rattle.matcher.specs.declared.MatchAnswer.the-variants.{Matched, StopsAt}
-use Rattle.matcher.specs.Match.{Entry, entry, noEntry, paired, entriesOf, fits, allFree, without, canTake, firstAt, fallFrom, firstFall, wrongSize}
+use Rattle.log_entries.specs.Entries.{Entry, entry, fits}
+use Rattle.matcher.specs.Match.{noEntry, paired, entriesOf, allFree, without, canTake, firstAt, fallFrom, firstFall, wrongSize}
 use Rattle.matcher.specs.Greedy.{Sized, freeIn, firstFit, greedyFrom, greedy}
 use Rattle.matcher.proofs.Places.{decide, first-at}
 use Rattle.matcher.proofs.Times.{Rising}

@@ -1,8 +1,8 @@
 -- What the matcher answers. `explains`, `verdict` and `matchOf` are to be believed; how entries are chosen is no part of them.
 use mathlib.Core.Bool.{Bool, true, false, cond, not}
 use mathlib.Core.List.{List, [], _∷_}
-use Prim.Native.Nat.{ℕ, zero, suc, _+_}
-use lib.Dec.{eqb, ltb, leb}
+use Prim.Native.Nat.{ℕ, zero, suc}
+use lib.Dec.{eqb, ltb}
 use lib.ListN.{length, take, getD}
 use Rattle.frames.specs.declared.Id.the-variants.{Standard}
 use Rattle.frames.specs.declared.CanFrame.{CanFrame}
@@ -13,17 +13,9 @@ use Rattle.matcher.specs.declared.Found.{Found}
 use Rattle.matcher.specs.declared.Found.the-variants.{At, Nothing}
 use Rattle.matcher.specs.declared.MatchAnswer.{MatchAnswer}
 use Rattle.matcher.specs.declared.MatchAnswer.the-variants.{Matched, StopsAt, BadLine, TimeBack, TooManyLines}
-use Rattle.matcher.specs.Frames.{sameFrame}
+use Rattle.log_entries.specs.Entries.{Entry, entry, fits}
 
 -- ---- entries
-
--- a frame and its time, in ms
-pub record Entry : Type 0 where
-  pub time : ℕ
-  pub frame : CanFrame
-
-abbrev pub entry : ℕ → CanFrame → Entry
-entry t f = record { time = t; frame = f }
 
 -- what a read past the end of a list of entries is
 abbrev pub noEntry : Entry
@@ -39,10 +31,6 @@ unfoldable pub entriesOf : FrameLog → List ℕ → List Entry
 entriesOf l ts = paired ts (take (l .count) (l .frames))
 
 -- ---- matching
-
--- r can be the frame of j: j is 0 to 50 ms earlier, and the frames are equal
-unfoldable pub fits : Entry → Entry → Bool
-fits j r = cond (leb (j .time) (r .time)) (cond (leb (r .time) (j .time + 50)) (sameFrame (j .frame) (r .frame)) false) false
 
 -- whether a test passes at some place below n
 unfoldable pub someBelow : ℕ → (ℕ → Bool) → Bool

@@ -3,8 +3,8 @@
 use frames::CanFrame;
 ghost use mathlib.Core.Path.{_≡_};
 ghost use mathlib.Core.Bool.{false, cond};
-ghost use Rattle.matcher.specs.Frames.{sameFrame};
-ghost use Rattle.matcher.specs.Match.{entry, fits, entriesOf, wrongSize, firstFall, numberOf, matchOf};
+ghost use Rattle.log_entries.specs.Entries.{entry, fits};
+ghost use Rattle.matcher.specs.Match.{entriesOf, wrongSize, firstFall, numberOf, matchOf};
 ghost use Rattle.matcher.specs.Greedy.{freeIn, firstFit, greedy, Sized};
 
 pub struct FrameLog {
@@ -44,39 +44,6 @@ pub fn answer_number(answer: MatchAnswer) -> u8
     }
 }
 
-// Whether two frames are equal in bus, kind, id, dlc and all eight bytes of data.
-fn same_frame(a: CanFrame, b: CanFrame) -> bool
-    ensures { λ r. ⌜ r ≡ sameFrame a b ⌝ }
-{
-    if a.bus != b.bus {
-        return false;
-    }
-    let i = a.id;
-    let j = b.id;
-    if frames::same_id(i, j) {
-        if a.dlc != b.dlc {
-            return false;
-        }
-        let x = a.data;
-        let y = b.data;
-        return frames::same_data(x, y);
-    }
-    false
-}
-
-// Whether a frame seen by the recorder can be that of a journal entry: equal, and 0 to 50 ms later.
-fn is_fit(j: CanFrame, sent: u64, f: CanFrame, seen: u64) -> bool
-    ensures { λ r. ⌜ r ≡ fits (entry sent j) (entry seen f) ⌝ }
-{
-    if seen < sent {
-        return false;
-    }
-    if 50 < seen - sent {
-        return false;
-    }
-    same_frame(j, f)
-}
-
 // Whether an entry that is taken already or not can be given to a frame.
 fn can_take(taken: bool, j: CanFrame, sent: u64, f: CanFrame, seen: u64) -> bool
     ensures { λ r. ⌜ r ≡ cond taken false (fits (entry sent j) (entry seen f)) ⌝ }
@@ -84,7 +51,7 @@ fn can_take(taken: bool, j: CanFrame, sent: u64, f: CanFrame, seen: u64) -> bool
     if taken {
         return false;
     }
-    is_fit(j, sent, f, seen)
+    log_entries::is_fit(j, sent, f, seen)
 }
 
 // The first place of the journal that is free and fits.

@@ -3,4 +3,3 @@ pub mod Gains
 pub mod Frames
 pub mod Turns
 pub mod Proved
-pub mod Live

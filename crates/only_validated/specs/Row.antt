@@ -31,7 +31,7 @@ use Rattle.policy.specs.Policy.{fingerprintConfirmed, isIdentified, isBusReadOn
 use Rattle.phone_trust.specs.Trust.{isPaired}
 use Rattle.probe_window.specs.declared.Unsent.the-variants.{At}
 use Rattle.probe_window.specs.Window.{isOpen, unsentIn}
-use Rattle.can_queue.specs.Calls.{noDecision}
+use Rattle.can_turns.specs.Turns.{noDecision}
 use Rattle.answers.specs.Query.{plain}
 use Rattle.new_gate.specs.New.{newGate}
 use Rattle.definition.specs.Gate.{Call, submitValidationCode, onSession, completeValidationAction, onLists, restorePhoneValidations, onCore, allowCanTx, step, after, afterAll}

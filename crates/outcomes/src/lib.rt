@@ -179,7 +179,7 @@ fn validated_by(v: Store, e: Ended) -> Store
         let session = e.said.core.validation.session;
         let car = session.car;
         let phone = session.phone;
-        return validations::validate(v, car, phone);
+        return add_validation::validate(v, car, phone);
     }
     v
 }

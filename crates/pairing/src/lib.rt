@@ -54,12 +54,12 @@ pub fn remove_paired_phone(p: Phones, id: &[u8]) -> Listed
 {
     let paired = p.paired;
     if phones::contains(paired, id) {
-        let rest = phones::remove_first(paired, id);
+        let rest = list_removals::remove_first(paired, id);
         let mut phones = p;
         phones.paired = rest;
-        return validations::forgetting(phones, Answer::Yes, id);
+        return forget_validations::forgetting(phones, Answer::Yes, id);
     }
-    validations::forgetting(p, Answer::No, id)
+    forget_validations::forgetting(p, Answer::No, id)
 }
 
 pub fn clear_paired_phones(p: Phones) -> Listed

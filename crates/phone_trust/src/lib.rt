@@ -1,10 +1,9 @@
 // Who is paired, who is validated (pairing.rs, phone_trust.rs).
-use phones::PhoneList;
 use saved_record::Store;
 use state::Identity;
 use state::Phones;
 ghost use mathlib.Core.Path.{_≡_};
-ghost use Rattle.phones.specs.Phones.{phonesOf};
+ghost use Rattle.phones.specs.Ids.{contains};
 ghost use Rattle.saved_record.specs.Store.{carsOf};
 ghost use Rattle.state.specs.View.{listsIn};
 ghost use Rattle.phone_trust.specs.Trust.{carHasValidated, isPaired, isValidated, validatedNow, trustOf};
@@ -23,15 +22,15 @@ pub fn is_paired(p: Phones, id: &[u8]) -> bool
     phones::contains(paired, id)
 }
 
-// The phones validated for the car identified now; none while no car is identified.
-fn validated_now(identity: Identity, s: Store) -> PhoneList
-    ensures { λ r. ⌜ phonesOf r ≡ validatedNow identity (carsOf s) ⌝ }
+// Whether the phone is validated for the car identified now; while no car is identified, none is.
+fn validated_now(identity: Identity, s: Store, id: &[u8]) -> bool
+    ensures { λ r. ⌜ r ≡ contains (now (id .entry)) (validatedNow identity (carsOf s)) ⌝ }
 {
     if policy::is_car_fingerprint_confirmed(identity) {
         let car = identity.car.digest;
-        return validations::phones_for(s, car);
+        return validations::car_lists(s, car, id);
     }
-    phones::empty_list()
+    false
 }
 
 pub fn is_phone_validated(identity: Identity, p: Phones, id: &[u8]) -> bool
@@ -42,8 +41,7 @@ pub fn is_phone_validated(identity: Identity, p: Phones, id: &[u8]) -> bool
     }
     if is_paired(p, id) {
         let store = p.store;
-        let validated = validated_now(identity, store);
-        return phones::contains(validated, id);
+        return validated_now(identity, store, id);
     }
     false
 }
@@ -51,10 +49,14 @@ pub fn is_phone_validated(identity: Identity, p: Phones, id: &[u8]) -> bool
 pub fn car_has_validated_phone(identity: Identity, p: Phones) -> bool
     ensures { λ r. ⌜ r ≡ carHasValidated identity (listsIn p) ⌝ }
 {
-    let store = p.store;
-    let paired = p.paired;
-    let validated = validated_now(identity, store);
-    phones::any_in(validated, paired)
+    let identified = policy::is_car_fingerprint_confirmed(identity);
+    if identified {
+        let store = p.store;
+        let paired = p.paired;
+        let car = identity.car.digest;
+        return validations::car_lists_any(store, car, paired);
+    }
+    false
 }
 
 pub fn phone_trust_level(identity: Identity, p: Phones, id: &[u8]) -> Trust

@@ -27,10 +27,6 @@ pub built-none : Built (replicate 1024 0) (replicate 32 0) 0 0 []
 unfolding padded joined
 built-none = record { bytes = refl; lens = refl; count = refl; to = refl; long = refl }
 
-pub built-empty : (l : PhoneList) → l ≡ listOf [] → Built (l .bytes) (l .lens) (l .count) 0 []
-unfolding listOf padded joined
-built-empty l e = rw e built-none
-
 pub built-list : (bytes lens : List ℕ) (count to : ℕ) (ps : List (List ℕ)) → Built bytes lens count to ps
     → _≡_ {A = PhoneList} (record { bytes = bytes; lens = lens; count = count }) (listOf ps)
 unfolding listOf

@@ -1,5 +1,5 @@
 -- Laws of the definitions of specs/.
-use mathlib.Core.Path.{_≡_, refl, ap, _∙_}
+use mathlib.Core.Path.{_≡_, refl, ap}
 use mathlib.Core.List.{List, [], _∷_, _++_, map, append-assoc, append-nil}
 use Prim.Native.Nat.{ℕ, zero, suc, _+_, _-_, _≤_, _<_, min}
 use native.Mathlib.Nat.{zero-min, min-zero, suc-min-suc}
@@ -82,6 +82,3 @@ module _ (l : PhoneList) (s : List ℕ) where
   pub append-long : length (phonesOf l) < 32 → 1024 < length (joined (phonesOf l)) + length s → laid l (pushed s (phonesOf l)) ≡ l
   unfolding pushed roomFor
   append-long h k = rw (lt-ltb _ _ h, lt-ltb _ _ k)
-
-  pub phones-append : length (phonesOf l) < 32 → length (joined (phonesOf l)) + length s ≤ 1024 → phonesOf (laid l (pushed s (phonesOf l))) ≡ phonesOf l ++ (s ∷ [])
-  phones-append h k = ap phonesOf (append-room h k) ∙ phones-of-list _

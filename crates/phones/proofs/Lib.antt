@@ -3,7 +3,6 @@ pub mod Made
 pub mod Walk
 pub mod Search
 pub mod Build
-pub mod Marks
 pub mod Counts
 pub mod Packed
 pub mod Range

@@ -1,6 +1,6 @@
 -- Which strings a list has, also after a change.
 use mathlib.Core.Path.{_≡_, refl, sym}
-use mathlib.Core.Bool.{Bool, true, false, cond, not, false≢true}
+use mathlib.Core.Bool.{Bool, true, false, cond, false≢true}
 use mathlib.Core.List.{List, [], _∷_, _++_, List·Memᴰ, List·Memᴰ·head, List·Memᴰ·tail, List·Memᴰ·not-nil, List·Memᴰ·cases-cons}
 use mathlib.Core.Logic.{_⊎_, inl, inr}
 use Prim.Native.Nat.{ℕ, zero, suc, _<_}
@@ -8,7 +8,7 @@ use native.Mathlib.Omega.{arith}
 use lib.ListN.{length}
 use Rattle.arrays.specs.Arrays.{sameBytes}
 use Rattle.arrays.proofs.Laws.{cond-same, same-refl, same-length, same-bytes-is}
-use Rattle.phones.specs.Ids.{someOf, kept, contains, removeAll}
+use Rattle.phones.specs.Ids.{someOf, contains}
 use Rattle.phones.proofs.Search.{some-snoc}
 use Rattle.phones.proofs.Range.{Short}
 
@@ -45,13 +45,3 @@ contains-long s (p ∷ ps) h k =
 pub contains-append : (s : List ℕ) (ps : List (List ℕ)) (q : List ℕ) → contains s (ps ++ (q ∷ [])) ≡ cond (contains s ps) true (sameBytes q s)
 unfolding contains
 contains-append s ps q = some-snoc _ ps q
-
--- none is left
-pub contains-all : (s : List ℕ) (ps : List (List ℕ)) → contains s (removeAll s ps) ≡ false
-unfolding contains removeAll someOf kept
-contains-all s [] = refl
-contains-all s (p ∷ ps) = go (sameBytes p s) refl (contains-all s ps)
-  where
-    go : (t : Bool) → sameBytes p s ≡ t → contains s (removeAll s ps) ≡ false → contains s (cond (not t) (p ∷ removeAll s ps) (removeAll s ps)) ≡ false
-    go true e rest = rest
-    go false e rest = rw e rest

@@ -76,9 +76,6 @@ range-short l h = all-short (phonesOf l) (fits-parts (phonesOf l) (range-fits l 
 
 -- ---- what is made of a list in range
 
-pub range-canonical : (l : PhoneList) → listInRange l ≡ true → listInRange (listOf (phonesOf l)) ≡ true
-range-canonical l h = list-range (phonesOf l) (range-count l h) (range-short l h)
-
 range-kept : (f : List ℕ → Bool) (l : PhoneList) → listInRange l ≡ true → listInRange (listOf (kept f (phonesOf l))) ≡ true
 range-kept f l h =
     let k = range-count l h in

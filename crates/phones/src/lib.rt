@@ -2,15 +2,14 @@
 // What stands past a length or a count is not looked at, and what would run past an array is cut at its end. A list that a
 // function makes is canonical: zeros past the last id and past the last length.
 ghost use mathlib.Core.Path.{_≡_};
-ghost use mathlib.Core.Bool.{not};
-ghost use mathlib.Core.List.{List, []};
-ghost use Prim.Native.Nat.{ℕ, min, _+_, _<_, _≤_};
+ghost use mathlib.Core.List.{[]};
+ghost use Prim.Native.Nat.{min, _<_};
 ghost use lib.ListN.{length, take};
-ghost use Rattle.arrays.specs.Arrays.{put, sameBytes};
-ghost use Rattle.phones.specs.Ids.{anyIn, keepWhere, removeFirst, removeAll, retainIn, pushed};
+ghost use Rattle.arrays.specs.Arrays.{sameBytes};
+ghost use Rattle.phones.specs.Ids.{anyIn, pushed};
 ghost use Rattle.phones.specs.Ids as Ids;
 ghost use Rattle.phones.specs.Phones.{idBytes, idOf, madeId, idInRange, idsIn, phonesOf, listOf, listInRange, laid};
-ghost use Rattle.phones.specs.Steps.{firstAt, marked, allBut, measuredOf};
+ghost use Rattle.phones.specs.Steps.{firstAt, measuredOf};
 
 // An id of at most 32 bytes: a phone's, or a method's.
 pub struct ShortId {
@@ -112,7 +111,7 @@ pub fn count(l: PhoneList) -> usize
 }
 
 // The place of the first id that is `s`; the number of ids if there is none.
-fn first_at(bytes: &[u8], lens: [u8; 32], count: usize, s: &[u8]) -> usize
+pub fn first_at(bytes: &[u8], lens: [u8; 32], count: usize, s: &[u8]) -> usize
     ensures { λ r. ⌜ r ≡ firstAt (now (s .entry)) (idsIn (take count lens) (now (bytes .entry))) ⌝ }
 {
     let n = clamp(count);
@@ -130,7 +129,7 @@ fn first_at(bytes: &[u8], lens: [u8; 32], count: usize, s: &[u8]) -> usize
 }
 
 // Whether the byte string `s` is one of the ids.
-fn found(bytes: &[u8], lens: [u8; 32], count: usize, s: &[u8]) -> bool
+pub fn found(bytes: &[u8], lens: [u8; 32], count: usize, s: &[u8]) -> bool
     ensures { λ r. ⌜ r ≡ Ids.contains (now (s .entry)) (idsIn (take count lens) (now (bytes .entry))) ⌝ }
 {
     first_at(bytes, lens, count, s) < clamp(count)
@@ -176,139 +175,6 @@ pub fn any_in(l: PhoneList, other: PhoneList) -> bool
         i += 1;
     }
     false
-}
-
-// Writes `src` among the bytes of a list.
-fn put_in(dst: &mut [u8; 1024], at: usize, src: &[u8])
-    requires { ⌜ at + length (now src) ≤ length (now dst) ⌝ }
-    ensures { λ _. ⌜ now (dst .exit) ≡ put (now (dst .entry)) at (now (src .entry)) ⌝ }
-{
-    arrays::put(dst, at, src);
-}
-
-// The ids that are marked: they move together.
-fn compacted(bytes: &[u8], lens: [u8; 32], count: usize, keep: [bool; 32]) -> PhoneList
-    requires { ⌜ length (now bytes) ≤ 1024 ⌝ }
-    ensures { λ r. ⌜ r ≡ listOf (keepWhere keep (idsIn (take count lens) (now (bytes .entry)))) ⌝ }
-{
-    let n = clamp(count);
-    let mut out = empty_list();
-    let mut to = 0;
-    let mut at = 0;
-    let mut i = 0;
-    while i < n {
-        let place = i;
-        i += 1;
-        let len = part(lens[place], bytes.len() - at);
-        let from = at;
-        let end = at + len;
-        at = end;
-        if keep[place] {
-            put_in(&mut out.bytes, to, &bytes[from..end]);
-            let k = out.count;
-            out.lens[k] = len as u8;
-            out.count = k + 1;
-            to += len;
-        }
-    }
-    out
-}
-
-// The list without the ids that are not marked.
-pub fn keep_where(l: PhoneList, keep: [bool; 32]) -> PhoneList
-    ensures { λ r. ⌜ r ≡ listOf (keepWhere keep (phonesOf l)) ⌝ }
-{
-    let lens = l.lens;
-    compacted(&l.bytes, lens, l.count, keep)
-}
-
-// Every place but `i`.
-fn all_but(i: usize) -> [bool; 32]
-    ensures { λ r. ⌜ r ≡ allBut i ⌝ }
-{
-    let mut keep = [true; 32];
-    if i < 32 {
-        keep[i] = false;
-        return keep;
-    }
-    keep
-}
-
-// The list without the first id that is `s`.
-pub fn remove_first(l: PhoneList, s: &[u8]) -> PhoneList
-    ensures { λ r. ⌜ r ≡ listOf (removeFirst (now (s .entry)) (phonesOf l)) ⌝ }
-{
-    let lens = l.lens;
-    let i = first_at(&l.bytes, lens, l.count, s);
-    let keep = all_but(i);
-    compacted(&l.bytes, lens, l.count, keep)
-}
-
-// Which ids are not `s`.
-fn others(bytes: &[u8], lens: [u8; 32], count: usize, s: &[u8]) -> [bool; 32]
-    ensures { λ r. ⌜ r ≡ marked (λ (p : List ℕ). not (sameBytes p (now (s .entry)))) (idsIn (take count lens) (now (bytes .entry))) ⌝ }
-{
-    let n = clamp(count);
-    let mut keep = [false; 32];
-    let mut at = 0;
-    let mut i = 0;
-    while i < n {
-        let end = at + part(lens[i], bytes.len() - at);
-        keep[i] = !arrays::same_bytes(&bytes[at..end], s);
-        at = end;
-        i += 1;
-    }
-    keep
-}
-
-// The list without every id that is `s`.
-pub fn remove_all(l: PhoneList, s: &[u8]) -> PhoneList
-    ensures { λ r. ⌜ r ≡ listOf (removeAll (now (s .entry)) (phonesOf l)) ⌝ }
-{
-    let lens = l.lens;
-    let keep = others(&l.bytes, lens, l.count, s);
-    compacted(&l.bytes, lens, l.count, keep)
-}
-
-// Which ids are among those of the other list.
-fn shared(
-    bytes: &[u8],
-    lens: [u8; 32],
-    count: usize,
-    theirs: &[u8],
-    their_lens: [u8; 32],
-    their_count: usize,
-) -> [bool; 32]
-    ensures { λ r. ⌜ r ≡ marked (λ (p : List ℕ). Ids.contains p (idsIn (take «their_count» «their_lens») (now (theirs .entry)))) (idsIn (take count lens) (now (bytes .entry))) ⌝ }
-{
-    let n = clamp(count);
-    let mut keep = [false; 32];
-    let mut at = 0;
-    let mut i = 0;
-    while i < n {
-        let end = at + part(lens[i], bytes.len() - at);
-        keep[i] = found(theirs, their_lens, their_count, &bytes[at..end]);
-        at = end;
-        i += 1;
-    }
-    keep
-}
-
-// The ids of the list that are in the other one.
-pub fn retain_in(l: PhoneList, other: PhoneList) -> PhoneList
-    ensures { λ r. ⌜ r ≡ listOf (retainIn (phonesOf other) (phonesOf l)) ⌝ }
-{
-    let lens = l.lens;
-    let their_lens = other.lens;
-    let keep = shared(
-        &l.bytes,
-        lens,
-        l.count,
-        &other.bytes,
-        their_lens,
-        other.count,
-    );
-    compacted(&l.bytes, lens, l.count, keep)
 }
 
 // The lengths as they were cut, zeros past them, and where the ids end.

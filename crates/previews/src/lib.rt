@@ -49,7 +49,7 @@ pub fn preview_forget_phone_validation(g: Gate, id: &[u8]) -> PreviewAnswer
     ensures { λ r. ⌜ answered g (previewed r) ≡ step g (ask (previewForgetPhoneValidation (now (id .entry)))) ⌝ }
 {
     let phones = g.phones;
-    let x = validations::forget_phone_validation(phones, id);
+    let x = forget_validations::forget_phone_validation(phones, id);
     foreseen(g, x)
 }
 
@@ -65,7 +65,7 @@ pub fn preview_prune_phone_validations(g: Gate) -> PreviewAnswer
     ensures { λ r. ⌜ answered g (previewed r) ≡ step g (ask previewPrunePhoneValidations) ⌝ }
 {
     let phones = g.phones;
-    let x = validations::prune_phone_validations(phones);
+    let x = forget_validations::prune_phone_validations(phones);
     foreseen(g, x)
 }
 

@@ -11,10 +11,10 @@ use lib.ListN.{length, take, drop, drop-of-length-le, length-append}
 use lib.Seq.{append-snoc, drop-cons, drop-drop, length-take-le}
 use Rattle.arrays.specs.Arrays.{put}
 use Rattle.arrays.proofs.Laws.{put-take, put-length}
-use Rattle.replay_lines.specs.Page.{Page, page}
-use Rattle.replay_lines.specs.Room.{Within}
-use Rattle.replay_player.specs.Played.{played, withState, passedOver, tooLong}
-use Rattle.replay_player.proofs.Laws.{played-host, state-host}
+use Rattle.replay_page.specs.Page.{Page, page}
+use Rattle.replay_page.specs.Room.{Within}
+use Rattle.replay_played.specs.Played.{played, withState, passedOver, tooLong}
+use Rattle.replay_played.proofs.Laws.{played-host, state-host}
 use Rattle.word_table.specs.Words.{before}
 use Rattle.replay_script.proofs.Laws.{found}
 use Rattle.replay_given.specs.Turns.{Turn}

@@ -7,8 +7,8 @@ use lib.Dec.{eqb, ltb}
 use lib.ListN.{length, take}
 use Rattle.arrays.specs.Arrays.{put}
 use Rattle.replay_host.specs.declared.Host.{Host}
-use Rattle.replay_lines.specs.Page.{Page, page}
-use Rattle.replay_player.specs.Played.{played, withState, passedOver, tooLong}
+use Rattle.replay_page.specs.Page.{Page, page}
+use Rattle.replay_played.specs.Played.{played, withState, passedOver, tooLong}
 use Rattle.replay_given.specs.Turns.{Turn}
 use Rattle.replay.specs.declared.Replay.{Replay}
 

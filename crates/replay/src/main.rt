@@ -4,16 +4,16 @@
 use libc::STDERR_FILENO;
 use libc::STDIN_FILENO;
 use libc::STDOUT_FILENO;
+use replay_arguments::Asked;
 use replay_given::Played;
 use replay_host::Host;
 ghost use mathlib.Core.Bool.{true};
 ghost use mathlib.Core.Path.{_≡_};
 ghost use Prim.Native.Nat.{_≤_};
 ghost use lib.ListN.{length};
-ghost use Rattle.replay_lines.specs.Page.{page};
-ghost use Rattle.replay_player.specs.Played.{mostRead, lineRoom};
+ghost use Rattle.replay_page.specs.Page.{page};
+ghost use Rattle.replay_played.specs.Played.{mostRead, lineRoom};
 ghost use Rattle.replay_given.specs.Turns.{turnOf};
-ghost use Rattle.replay.specs.Arguments.{askedBy};
 ghost use Rattle.replay.specs.Script.{keptLen, keptIn, lineIn, lineGives, hostAfter, read, ReadOn, readingOf, nextLine};
 
 // The host, the number of the line that is being read, and how much of it is there; above the room for a line: it is too
@@ -23,28 +23,6 @@ struct Replay {
     number: u64,
     len: usize,
     going: bool,
-}
-
-// What the arguments ask for: what each line gives, or states too; otherwise the place of an argument that is not known.
-enum Asked {
-    Lines,
-    States,
-    Unknown(usize),
-}
-
-fn asked_by(count: usize, first: &[u8]) -> Asked
-    ensures { λ r. ⌜ r ≡ askedBy count (now (first .entry)) ⌝ }
-{
-    if count < 2 {
-        return Asked::Lines;
-    }
-    if arrays::same_bytes(first, b"--state") {
-        if count < 3 {
-            return Asked::States;
-        }
-        return Asked::Unknown(2);
-    }
-    Asked::Unknown(1)
 }
 
 // Says that an argument is not known; of a long one the first 256 bytes.
@@ -93,15 +71,14 @@ fn give_line(p: Replay, line: &[u8], states: bool, room: &mut [u8], out: &mut [u
     ensures { λ r. ⌜ (turnOf r (now (out .exit)) ≡ lineGives states (p .host) (p .number) (lineIn (now (line .entry)) (p .len)) (page (now (out .entry)) 0)) × (r .at ≤ length (now (out .exit))) ⌝ }
 {
     let n = p.len;
-    let h = p.host;
     if line.len() < n {
-        let k = replay_player::put_too_long(p.number, out);
-        return replay_given::not_called(h, k);
+        let k = replay_played::put_too_long(p.number, out);
+        return replay_given::not_called(p.host, k);
     }
-    if replay_player::is_passed_over(&line[..n]) {
-        return replay_given::not_called(h, 0);
+    if replay_played::is_passed_over(&line[..n]) {
+        return replay_given::not_called(p.host, 0);
     }
-    replay_player::play(h, p.number, &line[..n], states, room, out)
+    replay_player::play(p.host, p.number, &line[..n], states, room, out)
 }
 
 // Plays the line that has ended; the next one has no byte yet. Open is whether it goes on, and what is left in `room` and `out`,
@@ -197,14 +174,14 @@ fn run(states: bool, line: &mut [u8], room: &mut [u8], out: &mut [u8])
 fn play(states: bool) {
     let mut line = [0u8; 16384];
     let mut room = [0u8; 16384];
-    let mut out = [0u8; 49152];
+    let mut out = replay_played::line_memory();
     run(states, &mut line, &mut room, &mut out);
 }
 
 fn main() {
     let mut first = [0u8; 16];
     let n = os::arg(1, &mut first);
-    let asked = asked_by(os::arg_count(), &first[..n]);
+    let asked = replay_arguments::asked_by(os::arg_count(), &first[..n]);
     match asked {
         Asked::Lines => play(false),
         Asked::States => play(true),

@@ -40,13 +40,15 @@ use Rattle.state.specs.Running.{pastMethods}
 use Rattle.state.specs.declared.Answer.{Answer}
 use Rattle.state.proofs.Answer as Answer
 use Rattle.replay_lines.specs.Answer.{heldBy, isOutOfRange}
-use Rattle.replay_lines.specs.Page.{Page, word}
-use Rattle.replay_lines.specs.Room.{Within}
+use Rattle.replay_page.specs.Page.{Page, word}
+use Rattle.replay_page.specs.Room.{Within}
 use Rattle.replay_lines.specs.declared.answer.Held.{Held}
 use Rattle.replay_lines.specs.declared.answer.Held.the-variants.{Fine, Blank, Item, Part, Reply, Wrong}
 use Rattle.replay_lines.proofs.AnswerRoom.{Owned, method-ids, HeldIn, shown-in, answer-in}
-use Rattle.replay_lines.proofs.StoreRoom.{saved-in, lists-in}
-use Rattle.replay_lines.proofs.Room.{_⊕_, upto, either, same, text-in, comma-in, item-in, flag-in, word-in, digits-in, id-in, phones-in, method-in}
+use Rattle.replay_lines.proofs.AnswerRoom.{saved-in}
+use Rattle.replay_cars.proofs.Room.{lists-in}
+use Rattle.replay_page.proofs.Room.{_⊕_, upto, either, same, text-in, comma-in, item-in, flag-in, word-in, digits-in}
+use Rattle.replay_lines.proofs.Room.{id-in, phones-in, method-in}
 use Rattle.replay_answers.specs.Query.{isDone, approvalName, trustName, told, approval, access, phonesListed, trust, peer, seenIn, shown, phoneAccess, methodAt, methodsTo, methods, challenge, encoded, preview, longRoom}
 
 pub told-in : (a : Answer) (vs : List Val) → Owned Answer.the-field a vs → (n : ℕ) (f : Page → Page) → Within n f → Within (205 + n) (told a f)

@@ -26,8 +26,8 @@ use Rattle.answers.specs.declared.TrustAnswer.{TrustAnswer}
 use Rattle.replay_lines.specs.declared.answer.Held.{Held}
 use Rattle.replay_lines.specs.declared.answer.Held.the-variants.{Fine, Blank, Item, Part, Reply, Wrong}
 use Rattle.replay_lines.specs.Answer.{heldBy, isOutOfRange, reply, answer}
-use Rattle.replay_lines.specs.Cars.{lists}
-use Rattle.replay_lines.specs.Page.{Page, _▸_, text, bytes, digits, comma, item, flag, word}
+use Rattle.replay_cars.specs.Cars.{lists}
+use Rattle.replay_page.specs.Page.{Page, _▸_, text, bytes, digits, comma, item, flag, word}
 use Rattle.replay_lines.specs.Parts.{idsFrom, method}
 use Rattle.replay_answers.specs.declared.Seen.{Seen}
 use Rattle.replay_answers.specs.declared.Seen.the-variants.{Missing, Shown}

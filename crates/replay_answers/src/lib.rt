@@ -21,7 +21,7 @@ ghost use mathlib.Core.Path.{_≡_};
 ghost use mathlib.Core.List.{[]};
 ghost use Prim.Native.Nat.{_<_};
 ghost use lib.ListN.{getD};
-ghost use Rattle.replay_lines.specs.Page.{page};
+ghost use Rattle.replay_page.specs.Page.{page};
 ghost use Rattle.replay_lines.specs.Table.{words};
 ghost use Rattle.replay_lines.specs.Fields.{putFields};
 ghost use Rattle.replay_answers.specs.Query.{isDone, approvalName, trustName, told, approval, access, phonesListed, trust, peer, seen, shown, phoneAccess, methodAt, methodsTo, methods, challenge, encoded, preview};
@@ -234,11 +234,11 @@ fn put_method_at(out: &mut [u8], at: usize, a: MethodsAnswer, i: usize) -> usize
     ensures { λ r. ⌜ page (now (out .exit)) r ≡ methodAt a i (page (now (out .entry)) at) ⌝ }
 {
     if i < a.count {
-        let k = replay_lines::put_comma(out, at, i);
+        let k = replay_page::put_comma(out, at, i);
         let m = a.list[i];
         let k = replay_lines::parts::put_method(out, k, m);
         let on = a.available[i];
-        return replay_lines::put_flag(out, k, b"/", on);
+        return replay_page::put_flag(out, k, b"/", on);
     }
     at
 }
@@ -323,7 +323,7 @@ pub fn put_preview(out: &mut [u8], at: usize, a: PreviewAnswer) -> usize
     }
     let paired = a.paired;
     let store = a.store;
-    let k = replay_lines::cars::put_lists(out, k, paired, store);
+    let k = replay_cars::put_lists(out, k, paired, store);
     let bytes = Field::Number(key::RECORD_BYTES, a.bytes as u64);
     replay_lines::fields::put_field(out, k, b"", bytes)
 }

@@ -9,7 +9,7 @@ use Rattle.definition.specs.Gate.{ask, onCore, approveCanReadWrite}
 use Rattle.answers.specs.Query.{isCanReadOnly, canReadWriteApproval}
 use Rattle.replay_items.specs.Bytes.{Bytes}
 use Rattle.replay_items.specs.declared.Items.{Items}
-use Rattle.replay_calls.specs.Calls.{Line, call, unknown, asking, newCall, phoneCalls, canCalls, plainQueries, longQueries, phoneCall, canCall, plainQuery, longQuery, otherLines, otherLine, hostLines, hostLine, restLines, askingLines, lines, restLine, askingLine, lineOf}
+use Rattle.replay_calls.specs.Calls.{Line, call, unknown, asking, newCall, phoneCalls, canCalls, plainQueries, longQueries, phoneCall, canCall, plainQuery, longQuery, otherLines, hostLines, hostLine, restLines, askingLines, lines, restLine, askingLine, lineOf}
 
 -- n is none of the numbers from 1 to k
 abbrev pub Others : ℕ → ℕ → Type 0
@@ -93,10 +93,6 @@ module _ (i : Items) (b : Bytes) (n : ℕ) where
   pub asking-rest : plains ≤ n → longs ≤ n - plains → askingLine n i b ≡ restLine (n - plains - longs) i b
   unfolding askingLine askingLines plainQueries longQueries restLine
   asking-rest h k = behind asking (plainQueries i b) fromLong n h ∙ behind asking (longQueries i b) (restLines i b) (n - plains) k
-
-  pub rest-other : n < others → restLine n i b ≡ otherLine n i b
-  unfolding restLine restLines otherLine otherLines
-  rest-other h = here (λ (x : Line). x) (otherLines i b) (hostLines i b) n unknown h
 
   pub rest-host : others ≤ n → restLine n i b ≡ hostLine (n - others) i b
   unfolding restLine restLines otherLines hostLine

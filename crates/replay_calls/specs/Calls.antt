@@ -142,9 +142,6 @@ otherLines i b =
     ∷ call (onSave (takePhoneValidationsSave (b .output)))
     ∷ []
 
-unfoldable pub otherLine : ℕ → Items → Bytes → Line
-otherLine n i b = getD (otherLines i b) n unknown
-
 -- the calls on waiting frames, and the lines about the host's list (02, W-204)
 unfoldable pub hostLines : Items → Bytes → List Line
 hostLines i b =

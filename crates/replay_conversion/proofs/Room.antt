@@ -12,9 +12,10 @@ use Rattle.converter.specs.declared.Conversion.the-variants.{Done, Malformed, C
 use Rattle.converter.specs.declared.Converted.{Converted}
 use Rattle.converter.proofs.Converted as Converted
 use Rattle.replay_lines.specs.Lent.{mostLent}
-use Rattle.replay_lines.specs.Room.{Within}
+use Rattle.replay_page.specs.Room.{Within}
 use Rattle.replay_lines.proofs.AnswerRoom.{Owned}
-use Rattle.replay_lines.proofs.Room.{_⊕_, item-in, word-in, output-in}
+use Rattle.replay_page.proofs.Room.{_⊕_, item-in, word-in}
+use Rattle.replay_lines.proofs.Room.{output-in}
 use Rattle.replay_conversion.specs.Conversion.{conversionName, conversion, conversionRoom}
 
 name-in : (c : Conversion) → length (conversionName c) ≤ 14

@@ -6,7 +6,7 @@ use Rattle.converter.specs.Convert.{Outcome}
 use Rattle.converter.specs.declared.Conversion.{Conversion}
 use Rattle.converter.specs.declared.Conversion.the-variants.{Done, Malformed, CarTwice, TooLarge, ManyCars, ShortOutput}
 use Rattle.replay_lines.specs.Lent.{output}
-use Rattle.replay_lines.specs.Page.{Page, _▸_, item, word}
+use Rattle.replay_page.specs.Page.{Page, _▸_, item, word}
 
 abbrev pub conversionName : Conversion → List ℕ
 conversionName Done = ascii "ok"

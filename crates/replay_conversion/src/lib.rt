@@ -9,8 +9,8 @@ ghost use Prim.Native.Nat.{_≤_};
 ghost use lib.ListN.{length, getD};
 ghost use Rattle.converter.specs.Convert.{converted};
 ghost use Rattle.replay_lines.specs.Lent.{mostLent};
-ghost use Rattle.replay_lines.specs.Page.{page};
-ghost use Rattle.replay_lines.specs.Room.{Within};
+ghost use Rattle.replay_page.specs.Page.{page};
+ghost use Rattle.replay_page.specs.Room.{Within};
 ghost use Rattle.replay_lines.specs.Table.{words};
 ghost use Rattle.replay_conversion.specs.Conversion.{conversionName, conversion, conversionRoom};
 

@@ -24,9 +24,10 @@ use Rattle.waiting_list.specs.declared.Waiting.{Waiting}
 use Rattle.waiting_list.specs.Queue.{recordAt}
 use Rattle.waiting_list.proofs.Waiting as Waiting
 use Rattle.replay_lines.specs.Answer.{answer}
-use Rattle.replay_lines.specs.Room.{Within}
+use Rattle.replay_page.specs.Room.{Within}
 use Rattle.replay_lines.proofs.AnswerRoom.{Owned}
-use Rattle.replay_lines.proofs.Room.{_⊕_, upto, either, same, text-in, number-in, bytes-in, comma-in, item-in, flag-in, word-in, id-in}
+use Rattle.replay_page.proofs.Room.{_⊕_, upto, either, same, text-in, number-in, bytes-in, comma-in, item-in, flag-in, word-in}
+use Rattle.replay_lines.proofs.Room.{id-in}
 use Rattle.replay_running.proofs.Room.{id-text-in}
 use Rattle.replay_answers.proofs.Room.{told-in}
 use Rattle.replay_frames.specs.Frames.{busId, frame, decided, noneDecided, decidedAt, decidedTo, report, classPart, waiting, waitingAt, waitingTo, lentList}

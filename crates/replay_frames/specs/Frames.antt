@@ -18,7 +18,7 @@ use Rattle.state.specs.declared.Answer.the-variants.{Done}
 use Rattle.state.specs.declared.Decided.{Decided}
 use Rattle.state.specs.declared.Report.{Report}
 use Rattle.replay_lines.specs.Answer.{answer}
-use Rattle.replay_lines.specs.Page.{Page, _▸_, text, number, bytes, comma, item, flag}
+use Rattle.replay_page.specs.Page.{Page, _▸_, text, number, bytes, comma, item, flag}
 use Rattle.replay_running.specs.Probe.{idText}
 use Rattle.replay_answers.specs.Query.{told}
 

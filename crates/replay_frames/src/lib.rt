@@ -10,15 +10,15 @@ use state::Report;
 use waiting_list::Waiting;
 ghost use mathlib.Core.Path.{_≡_};
 ghost use Prim.Native.Nat.{_<_};
-ghost use Rattle.replay_lines.specs.Page.{page, text};
+ghost use Rattle.replay_page.specs.Page.{page, text};
 ghost use Rattle.replay_frames.specs.Frames.{classPart, busId, frame, decided, decidedAt, decidedTo, report, waiting, waitingAt, waitingTo, lentList};
 
 // BUS/KIND/ID
 fn put_bus_id(out: &mut [u8], at: usize, bus: u8, id: Id) -> usize
     ensures { λ r. ⌜ page (now (out .exit)) r ≡ busId bus id (page (now (out .entry)) at) ⌝ }
 {
-    let k = replay_lines::put_number(out, at, bus as u64);
-    let k = replay_lines::put_text(out, k, b"/");
+    let k = replay_page::put_number(out, at, bus as u64);
+    let k = replay_page::put_text(out, k, b"/");
     replay_running::probe::put_id(out, k, id)
 }
 
@@ -28,10 +28,10 @@ fn put_frame(out: &mut [u8], at: usize, f: CanFrame) -> usize
 {
     let id = f.id;
     let k = put_bus_id(out, at, f.bus, id);
-    let k = replay_lines::put_item(out, k, b"/", f.dlc as u64);
-    let k = replay_lines::put_text(out, k, b"/");
+    let k = replay_page::put_item(out, k, b"/", f.dlc as u64);
+    let k = replay_page::put_text(out, k, b"/");
     let data = f.data;
-    replay_lines::put_bytes(out, k, &data)
+    replay_page::put_bytes(out, k, &data)
 }
 
 // ---- the report of a run
@@ -42,7 +42,7 @@ fn put_decided(out: &mut [u8], at: usize, d: Decided) -> usize
 {
     let f = d.frame;
     let k = put_frame(out, at, f);
-    replay_lines::put_flag(out, k, b"/", d.allowed)
+    replay_page::put_flag(out, k, b"/", d.allowed)
 }
 
 // That of the turn at a place, if it was taken.
@@ -51,7 +51,7 @@ fn put_decided_at(out: &mut [u8], at: usize, r: Report, i: usize) -> usize
     ensures { λ k. ⌜ page (now (out .exit)) k ≡ decidedAt r i (page (now (out .entry)) at) ⌝ }
 {
     if i < r.turns {
-        let k = replay_lines::put_comma(out, at, i);
+        let k = replay_page::put_comma(out, at, i);
         let d = r.frames[i];
         return put_decided(out, k, d);
     }
@@ -97,8 +97,8 @@ fn put_class(out: &mut [u8], at: usize, c: TxClass) -> usize
     ensures { λ r. ⌜ page (now (out .exit)) r ≡ text (classPart c) (page (now (out .entry)) at) ⌝ }
 {
     match c {
-        TxClass::Platform => replay_lines::put_text(out, at, b"/platform/"),
-        TxClass::Command => replay_lines::put_text(out, at, b"/command/"),
+        TxClass::Platform => replay_page::put_text(out, at, b"/platform/"),
+        TxClass::Command => replay_page::put_text(out, at, b"/command/"),
     }
 }
 
@@ -120,7 +120,7 @@ fn put_waiting_at(out: &mut [u8], at: usize, list: [Waiting; 17], lent: usize, i
     ensures { λ r. ⌜ page (now (out .exit)) r ≡ waitingAt list lent i (page (now (out .entry)) at) ⌝ }
 {
     if i < lent {
-        let k = replay_lines::put_comma(out, at, i);
+        let k = replay_page::put_comma(out, at, i);
         let w = list[i];
         return put_waiting(out, k, w);
     }

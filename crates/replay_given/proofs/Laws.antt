@@ -11,9 +11,9 @@ use Rattle.replay_frames.specs.Frames as Frames
 use Rattle.replay_frames.proofs.Room.{report-in}
 use Rattle.replay_host.specs.Host.{withGate, withList}
 use Rattle.replay_host.specs.declared.Host.{Host}
-use Rattle.replay_lines.specs.Page.{Page, _▸_}
+use Rattle.replay_page.specs.Page.{Page, _▸_}
 use Rattle.replay_lines.proofs.AnswerRoom.{Owned}
-use Rattle.replay_lines.proofs.Room.{_⊕_, upto}
+use Rattle.replay_page.proofs.Room.{_⊕_, upto}
 use Rattle.replay_signals.specs.Signals.{signals}
 use Rattle.replay_signals.proofs.Room.{signals-in}
 use Rattle.state.specs.declared.Outcome.{Outcome}

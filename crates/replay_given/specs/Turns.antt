@@ -7,15 +7,14 @@ use Rattle.converter.specs.Convert.{converted}
 use Rattle.definition.specs.Gate.{Lent, nothing, bytes, records, Given, given, step}
 use Rattle.replay_conversion.specs.Conversion.{conversion}
 use Rattle.replay_frames.specs.Frames as Frames
-use Rattle.replay_host.specs.Host.{withLent, recordOf, withRecord, hostAfter, lendingTo}
+use Rattle.replay_host.specs.Host.{withCounters, withLent, recordOf, withRecord, hostAfter, lendingTo}
 use Rattle.replay_host.specs.declared.Host.{Host}
 use Rattle.replay_lines.specs.Answer.{answer}
 use Rattle.replay_lines.specs.Lent.{output}
-use Rattle.replay_lines.specs.Page.{Page, page, _▸_}
-use Rattle.replay_lines.specs.Room.{Within}
+use Rattle.replay_page.specs.Page.{Page, page, _▸_}
+use Rattle.replay_page.specs.Room.{Within}
 use Rattle.replay_signals.specs.Signals.{signals}
 use Rattle.replay_state.specs.Whole as Whole
-use Rattle.state.specs.Parts.{withValidation, withProbe, withNext, withRelocks}
 use Rattle.state.specs.Replies.{noSignals}
 use Rattle.state.specs.declared.Answer.{Answer}
 use Rattle.state.specs.declared.Answer.the-variants.{Done}
@@ -59,21 +58,11 @@ answerAlone g a = record { answer = a; signals = noSignals; gate = g }
 abbrev pub calm : Host → Page → Turn
 calm h p = record { host = h; page = signals noSignals p; called = true }
 
--- a line about the host's list that was done
+-- a line about what the host holds that was done
 abbrev pub done : Host → Page → Turn
 done h p = calm h (p ▸ answer Done)
 
--- the gate with another number for its next session and another relock count
-abbrev pub withCounters : Gate → ℕ → ℕ → Gate
-withCounters g next relocks = record {
-  core = withProbe (withValidation (g .core) (withNext (g .core .validation) next)) (withRelocks (g .core .probe) relocks);
-  phones = g .phones;
-  save = g .save;
-  queue = g .queue;
-  code = g .code;
-}
-
-abbrev pub ran : Line → Host → Page → Turn
+unfoldable pub ran : Line → Host → Page → Turn
 ran (call c) h p = laid h (step (h .gate) c) p
 ran (lending k) h p = laid h (lendingTo h k) p
 ran (counters next relocks) h p = laid h (given (answerAlone (withCounters (h .gate) next relocks) Done)) p

@@ -12,8 +12,8 @@ ghost use mathlib.Core.List.{List};
 ghost use Rattle.definition.specs.Gate.{given, sendCanFrame, serveCanFrames};
 ghost use Rattle.waiting_list.specs.declared.Waiting.{Waiting};
 ghost use Rattle.replay_items.specs.Bytes.{lentBytes};
-ghost use Rattle.replay_lines.specs.Page.{page};
-ghost use Rattle.replay_lines.specs.Room.{Within};
+ghost use Rattle.replay_page.specs.Page.{page};
+ghost use Rattle.replay_page.specs.Room.{Within};
 ghost use Rattle.replay_signals.specs.Signals.{signals};
 ghost use Rattle.state.specs.Replies.{noSignals};
 ghost use Rattle.replay_calls.specs.Calls.{lending, lentList, hostLine};
@@ -31,10 +31,8 @@ pub fn put_outcome(h: Host, o: Outcome, out: &mut [u8], at: usize) -> Played
 {
     let a = o.answer;
     let k = replay_lines::answer::put_answer(out, at, a);
-    let s = o.signals;
-    let k = replay_signals::put_signals(out, k, s);
-    let g = o.gate;
-    let host = replay_host::with_gate(h, g);
+    let k = replay_signals::put_signals(out, k, o.signals);
+    let host = replay_host::with_gate(h, o.gate);
     Played {
         host,
         at: k,
@@ -66,8 +64,8 @@ pub fn not_called(h: Host, at: usize) -> Played
     }
 }
 
-// A line about the host's list that was done. It raises nothing.
-fn put_done(h: Host, out: &mut [u8], at: usize) -> Played
+// A line about what the host holds that was done. It raises nothing.
+pub fn put_done(h: Host, out: &mut [u8], at: usize) -> Played
     ensures { λ r. ⌜ Lays (done h) (page (now (out .entry)) at) r (now (out .exit)) ⌝ }
 {
     let k = replay_lines::answer::put_answer(out, at, Answer::Done);
@@ -97,8 +95,7 @@ fn put_sent(
     let s = replay_host::send_can_frame(h, frame, class, owner);
     let list = s.list;
     let next = replay_host::with_list(h, list);
-    let o = s.outcome;
-    put_outcome(next, o, out, at)
+    put_outcome(next, s.outcome, out, at)
 }
 
 // Takes turns, with the host's list lent, and lays down what that gives.
@@ -108,15 +105,11 @@ fn put_served(h: Host, turns: u32, clock: u64, out: &mut [u8], at: usize) -> Pla
     let s = replay_host::serve_can_frames(h, turns, clock);
     let list = s.list;
     let next = replay_host::with_list(h, list);
-    let ran = s.ran;
-    let report = ran.report;
-    let o = ran.outcome;
+    let o = s.ran.outcome;
     let a = o.answer;
-    let k = replay_frames::put_report(out, at, a, report);
-    let raised = o.signals;
-    let k = replay_signals::put_signals(out, k, raised);
-    let left = o.gate;
-    let host = replay_host::with_gate(next, left);
+    let k = replay_frames::put_report(out, at, a, s.ran.report);
+    let k = replay_signals::put_signals(out, k, o.signals);
+    let host = replay_host::with_gate(next, o.gate);
     Played {
         host,
         at: k,
@@ -136,18 +129,20 @@ pub fn run_host(
 ) -> Played
     ensures { λ r. ⌜ Lays (ran (hostLine name i (lentBytes p (now (room .entry)))) h) (page (now (out .entry)) at) r (now (out .exit)) ⌝ }
 {
-    let n = i.numbers;
-    let frame = i.frame.frame;
     let c = i.class;
     let class = c.class;
     let owner = replay_items::bytes::lent(room, p.fingerprint, p.owner);
     match name {
-        0 => put_sent(h, frame, class, owner, out, at),
-        1 => put_served(h, n.turns.value, n.clock.value, out, at),
-        2 => put_done(replay_host::with_lent(h, n.length.value), out, at),
+        0 => put_sent(h, i.frame.frame, class, owner, out, at),
+        1 => put_served(h, i.numbers.turns.value, i.numbers.clock.value, out, at),
+        2 => put_done(replay_host::with_lent(h, i.numbers.length.value), out, at),
         3 => {
-            let w = replay_host::record_of(frame, class, owner);
-            put_done(replay_host::with_record(h, n.slot.value, w), out, at)
+            let w = replay_host::record_of(i.frame.frame, class, owner);
+            put_done(
+                replay_host::with_record(h, i.numbers.slot.value, w),
+                out,
+                at,
+            )
         }
         4 => put_list(h, out, at),
         _ => not_called(h, at),

@@ -11,6 +11,7 @@ use Rattle.frames.specs.declared.Id.the-variants.{Standard}
 use Rattle.frames.specs.declared.TxClass.{TxClass}
 use Rattle.frames.specs.declared.TxClass.the-variants.{Platform}
 use Rattle.waiting_list.specs.declared.Waiting.{Waiting}
+use Rattle.state.specs.Parts.{withValidation, withProbe, withNext, withRelocks}
 use Rattle.state.specs.declared.Gate.{Gate}
 use Rattle.definition.specs.Gate.{QueueCall, sendCanFrame, serveCanFrames, onQueue, Lent, nothing, bytes, records, Given, step, lentRecords, ranGiven}
 use Rattle.replay_host.specs.declared.Host.{Host}
@@ -29,6 +30,16 @@ firstHost g = record { gate = g; list = replicate 17 neverSet; lent = 16 }
 
 abbrev pub withGate : Host → Gate → Host
 withGate h g = record { gate = g; list = h .list; lent = h .lent }
+
+-- the gate with another number for its next session and another relock count
+abbrev pub withCounters : Gate → ℕ → ℕ → Gate
+withCounters g next relocks = record {
+  core = withProbe (withValidation (g .core) (withNext (g .core .validation) next)) (withRelocks (g .core .probe) relocks);
+  phones = g .phones;
+  save = g .save;
+  queue = g .queue;
+  code = g .code;
+}
 
 abbrev pub withList : Host → List Waiting → Host
 withList h l = record { gate = h .gate; list = l; lent = h .lent }

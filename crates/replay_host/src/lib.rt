@@ -11,7 +11,7 @@ use waiting_list::Waiting;
 ghost use mathlib.Core.Path.{_≡_};
 ghost use mathlib.Core.List.{_++_};
 ghost use lib.ListN.{take, drop};
-ghost use Rattle.replay_host.specs.Host.{neverSet, firstHost, withGate, withList, withLent, ownerOf, recordOf, withRecord, Sends, Serves};
+ghost use Rattle.replay_host.specs.Host.{neverSet, firstHost, withGate, withCounters, withList, withLent, ownerOf, recordOf, withRecord, Sends, Serves};
 
 // Of the seventeen records the first `lent` are lent.
 pub struct Host {
@@ -89,6 +89,16 @@ pub fn with_lent(h: Host, n: usize) -> Host
     next
 }
 
+// Sets the number of the next session and the relock count.
+pub fn with_counters(h: Host, next: u32, relocks: u32) -> Host
+    ensures { λ r. ⌜ r ≡ withGate h (withCounters (h .gate) next relocks) ⌝ }
+{
+    let mut set = h;
+    set.gate.core.validation.next = next;
+    set.gate.core.probe.relocks = relocks;
+    set
+}
+
 fn owner_of(s: &[u8]) -> ShortId
     ensures { λ r. ⌜ r ≡ ownerOf (now (s .entry)) ⌝ }
 {
@@ -154,33 +164,31 @@ fn with_sixteen(list: [Waiting; 17], all: [Waiting; 16]) -> [Waiting; 17]
 pub fn send_can_frame(h: Host, frame: CanFrame, class: TxClass, owner: &[u8]) -> Sent
     ensures { λ r. ⌜ Sends h frame class (now (owner .entry)) r ⌝ }
 {
-    let g = h.gate;
     let list = h.list;
     if h.lent == 16 {
         let all = sixteen(list);
-        let s = gate_queue::send_sixteen(g, all, frame, class, owner);
+        let s = gate_queue::send_sixteen(h.gate, all, frame, class, owner);
         let left = s.all;
         let list = with_sixteen(list, left);
         let outcome = s.outcome;
         return Sent { outcome, list };
     }
-    let outcome = gate_queue::send_none(g, frame, class, owner);
+    let outcome = gate_queue::send_none(h.gate, frame, class, owner);
     Sent { outcome, list }
 }
 
 pub fn serve_can_frames(h: Host, turns: u32, clock: u64) -> Served
     ensures { λ r. ⌜ Serves h turns clock r ⌝ }
 {
-    let g = h.gate;
     let list = h.list;
     if h.lent == 16 {
         let all = sixteen(list);
-        let s = gate_queue::serve_sixteen(g, all, turns, clock);
+        let s = gate_queue::serve_sixteen(h.gate, all, turns, clock);
         let left = s.all;
         let list = with_sixteen(list, left);
         let ran = s.ran;
         return Served { ran, list };
     }
-    let ran = gate_queue::serve_none(g);
+    let ran = gate_queue::serve_none(h.gate);
     Served { ran, list }
 }

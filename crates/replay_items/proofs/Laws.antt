@@ -11,13 +11,15 @@ use lib.ListN.{length, take, drop, length-append, take-append-drop}
 use lib.Seq.{take-at, drop-at, drop-append-add, drop-drop}
 use Rattle.arrays.specs.Arrays.{put}
 use Rattle.arrays.proofs.Laws.{put-length}
-use Rattle.replay_script.specs.Values.{theNumber, isBytes, asBytes, fitsIn, laidTo, layBytes, theBytes, layTheBytes}
+use Rattle.replay_values.specs.Values.{theNumber, theBytes, layTheBytes}
+use Rattle.replay_digits.specs.Digits.{isBytes, asBytes, fitsIn, laidTo, layBytes}
 use Rattle.replay_script.specs.Words.{part}
-use Rattle.replay_script.specs.declared.Laid.the-variants.{To, NoBytes}
-use Rattle.replay_script.specs.declared.Number.the-variants.{Given}
-use Rattle.replay_script.specs.declared.Written.{Written}
-use Rattle.replay_script.proofs.Laws.{number-most}
-use Rattle.replay_items.specs.Bytes.{areBytes, bytesIn, lentAt}
+use Rattle.replay_digits.specs.declared.Laid.the-variants.{To, NoBytes}
+use Rattle.replay_digits.specs.declared.Number.the-variants.{Given}
+use Rattle.replay_digits.specs.declared.Written.{Written}
+use Rattle.replay_digits.proofs.Laws.{number-most}
+use Rattle.replay_items.specs.Bytes.{areBytes, bytesIn, bytesAt, lentAt, LaidAt}
+use Rattle.replay_items.specs.declared.LaidValue.{LaidValue}
 
 -- ---- numbers
 
@@ -82,11 +84,35 @@ pub record Begun (d room p : List ℕ) (at : ℕ) : Type 0 where
 pub begin : (d : List ℕ) → Begun d d [] 0
 begin d = record { memory = sym (put-none d 0); end = refl }
 
-pub next : {d room after p : List ℕ} {at end : ℕ} (s : List ℕ) → Begun d room p at → end ≡ at + length s → after ≡ put room at s → Begun d after (p ++ s) end
-next {d} {p = p} s b e m = record {
-  memory = m ∙ ap₂ (λ (r : List ℕ) (n : ℕ). put r n s) (b .memory) (b .end) ∙ put-more d p s;
-  end = e ∙ ap (λ (n : ℕ). n + length s) (b .end) ∙ sym (length-append p s);
-}
+pub next : {d room after key line p : List ℕ} {form : Written} {at : ℕ} {r : LaidValue} → Begun d room p at → LaidAt form key line room after at r
+    → Begun d after (p ++ bytesAt form key line) (r .end)
+next {d} {key = key} {line = line} {p = p} {form = form} b l =
+    let s = bytesAt form key line in
+    record {
+      memory = l .memory ∙ ap₂ (λ (m : List ℕ) (n : ℕ). put m n s) (b .memory) (b .end) ∙ put-more d p s;
+      end = l .end ∙ ap (λ (n : ℕ). n + length s) (b .end) ∙ sym (length-append p s);
+    }
+
+-- p stands at the start of `all`
+pub record Front (p all : List ℕ) : Type 0 where
+  pub rest : List ℕ
+  pub is : all ≡ p ++ rest
+
+pub whole : (p : List ℕ) → Front p p
+whole p = record { rest = []; is = sym (append-nil p) }
+
+pub less : {all : List ℕ} (p x : List ℕ) → Front (p ++ x) all → Front p all
+less p x f = record { rest = x ++ f .rest; is = f .is ∙ append-assoc p x (f .rest) }
+
+-- there is room for each of those that fit together
+pub fitted : {line d all room after key p : List ℕ} {form : Written} {at : ℕ} {r : LaidValue} → length all ≤ length d → Front (p ++ bytesAt form key line) all → Begun d room p at
+    → (at + length (bytesAt form key line) ≤ length room → LaidAt form key line room after at r) → LaidAt form key line room after at r
+fitted {line} {d} {all} {room} {key = key} {p = p} {form = form} fits f b h =
+    let x = bytesAt form key line in
+    let parts = length-append p x in
+    let whole : length all ≡ length (p ++ x) + length (f .rest) = ap length (f .is) ∙ length-append (p ++ x) (f .rest) in
+    let long : length room ≡ length d = ap length (b .memory) ∙ put-length d 0 p (omega arith) in
+    h (omega arith)
 
 part-of : (d p x t : List ℕ) → part (length p) (length (p ++ x)) (put d 0 (p ++ x ++ t)) ≡ x
 unfolding put
@@ -96,10 +122,12 @@ part-of d p x t =
     let n : length (p ++ x) - length p ≡ length x = rw length-append (omega arith) in
     rw (n, e, drop-at p (x ++ (t ++ r)) (length p) refl) (take-at x (t ++ r) (length x) refl)
 
-pub lent-in : (d room all p x t : List ℕ) (a e : ℕ) → room ≡ put d 0 all → all ≡ p ++ x ++ t → length all ≤ length d → a ≡ length p → e ≡ length (p ++ x) → lentAt a e room ≡ x
+pub lent-in : {d room all : List ℕ} {n a e : ℕ} (p x : List ℕ) → Begun d room all n → length all ≤ length d → Front (p ++ x) all → a ≡ length p → e ≡ length (p ++ x) → lentAt a e room ≡ x
 unfolding lentAt
-lent-in d room all p x t a e m s fits ha he =
+lent-in {d} {room} {all} {a = a} {e = e} p x b fits f ha he =
+    let t = f .rest in
+    let m = b .memory in
     let long : length room ≡ length d = ap length m ∙ put-length d 0 all (omega arith) in
     let parts = length-append p x in
-    let whole : length all ≡ length (p ++ x) + length t = ap length s ∙ length-append (p ++ x) t in
-    rw (le-ltb (length room) e (omega arith), le-ltb e a (omega arith), m, s, ha, he) (part-of d p x t)
+    let whole : length all ≡ length (p ++ x) + length t = ap length (f .is) ∙ length-append (p ++ x) t in
+    rw (le-ltb (length room) e (omega arith), le-ltb e a (omega arith), m, f .is, ha, he) (part-of d p x t)

@@ -7,18 +7,18 @@ use Prim.Native.Nat.{ℕ, zero, suc, _+_, _*_, _≤_, _<_}
 use native.Mathlib.Omega.{arith}
 use borrow.Author.Tests.{eq-eqb, eqb-true, ltb-true}
 use lib.Dec.{eqb, ltb}
-use lib.ListN.{length, take, drop, getD, length-drop}
+use lib.ListN.{length, take, drop, getD, length-append, length-drop}
 use Rattle.arrays.specs.Arrays.{sameBytes}
 use Rattle.arrays.proofs.Laws.{same-bytes-is}
 use Rattle.ascii.specs.Ascii.{ascii}
 use Rattle.replay_script.specs.Places.{hasKey, valuesOf, only, itemOf}
-use Rattle.replay_script.specs.Values.{isText, isBytes, asBytes, pairsOf}
+use Rattle.replay_digits.specs.Digits.{isText, isBytes, asBytes, pairsOf}
 use Rattle.replay_script.specs.Words.{split, afterFirst, itemsOf}
 use Rattle.word_table.specs.Words.{before, onto}
-use Rattle.replay_script.specs.declared.Written.{Written}
-use Rattle.replay_script.specs.declared.Written.the-variants.{Hex, HexOrText}
-use Rattle.replay_script.proofs.Laws.{pairs-length}
-use Rattle.replay_items.specs.Bytes.{bytesIn, bytesAt}
+use Rattle.replay_digits.specs.declared.Written.{Written}
+use Rattle.replay_digits.specs.declared.Written.the-variants.{Hex, HexOrText}
+use Rattle.replay_digits.proofs.Laws.{pairs-length}
+use Rattle.replay_items.specs.Bytes.{bytesIn, bytesAt, bytesOf, joined}
 
 -- ---- words of a line
 
@@ -177,10 +177,11 @@ keys-apart : Apart byteKeys
 unfolding Apart Plain byteKeys among before sameBytes
 keys-apart = (refl, refl, (refl, refl, (refl, refl, (refl, refl, (refl, refl, (refl, refl, (refl, refl, (refl, refl, tt))))))))
 
-pub sizes : (line : List ℕ) → length (bytesAt HexOrText (ascii "phone") line) + length (bytesAt HexOrText (ascii "method") line) + length (bytesAt Hex (ascii "random") line) + length (bytesAt HexOrText (ascii "code") line) + length (bytesAt Hex (ascii "record") line) + length (bytesAt Hex (ascii "fingerprint") line) + length (bytesAt HexOrText (ascii "owner") line) + length (bytesAt Hex (ascii "output") line) ≤ length line
-unfolding together byteKeys
-sizes line =
-    omega (
+-- all of them, one behind the other
+pub joined-size : (line : List ℕ) → length (joined (bytesOf line)) ≤ length line
+unfolding together byteKeys joined bytesOf
+joined-size line =
+    simp length-append (omega (
       arith,
       items-lengths line,
       in-words byteKeys (itemsOf line) keys-apart,
@@ -192,7 +193,7 @@ sizes line =
       bytes-length Hex (ascii "fingerprint") line,
       bytes-length HexOrText (ascii "owner") line,
       bytes-length Hex (ascii "output") line,
-    )
+    ))
 
 -- ---- hexadecimal digits alone
 

@@ -8,10 +8,10 @@ use lib.ListN.{length}
 use Rattle.arrays.specs.Arrays.{put}
 use Rattle.ascii.specs.Ascii.{ascii}
 use Rattle.replay_script.specs.Places.{itemOf}
-use Rattle.replay_script.specs.Values.{isBytes, asBytes}
+use Rattle.replay_digits.specs.Digits.{isBytes, asBytes}
 use Rattle.replay_script.specs.Words.{part}
-use Rattle.replay_script.specs.declared.Written.{Written}
-use Rattle.replay_script.specs.declared.Written.the-variants.{Hex, HexOrText}
+use Rattle.replay_digits.specs.declared.Written.{Written}
+use Rattle.replay_digits.specs.declared.Written.the-variants.{Hex, HexOrText}
 use Rattle.replay_items.specs.declared.Ends.{Ends}
 use Rattle.replay_items.specs.declared.Has.{Has}
 use Rattle.replay_items.specs.declared.LaidValue.{LaidValue}

@@ -5,9 +5,9 @@ use Prim.Native.Nat.{ℕ}
 use lib.ListN.{length}
 use Rattle.arrays.specs.Arrays.{put}
 use Rattle.ascii.specs.Ascii.{ascii}
-use Rattle.replay_script.specs.Lists.{noMethods, addMethods, noFrames, addFrames}
+use Rattle.replay_lists.specs.Lists.{noMethods, addMethods, noFrames, addFrames}
 use Rattle.replay_script.specs.Places.{itemOf, valuesOf}
-use Rattle.replay_script.specs.Values.{isTheWord, theCar}
+use Rattle.replay_values.specs.Values.{isTheWord, theCar}
 use Rattle.replay_script.specs.Words.{itemsOf}
 use Rattle.replay_items.specs.Bytes.{hasAt, lentBytes, bytesOf, joined, endsOf}
 use Rattle.replay_items.specs.Values.{numbersAt, switchesAt, classAt, frameAt, settingsAt}

@@ -7,14 +7,14 @@ use Rattle.frames.specs.declared.Id.the-variants.{Standard}
 use Rattle.frames.specs.declared.TxClass.{TxClass}
 use Rattle.frames.specs.declared.TxClass.the-variants.{Platform, Command}
 use Rattle.replay_script.specs.Places.{itemOf}
-use Rattle.replay_script.specs.Values.{theNumber, theFlag, isTheWord, theId, theData}
-use Rattle.replay_script.specs.declared.CanId.{CanId}
-use Rattle.replay_script.specs.declared.CanId.the-variants.{Is, NoId}
-use Rattle.replay_script.specs.declared.Data.{Data}
-use Rattle.replay_script.specs.declared.Flag.{Flag}
-use Rattle.replay_script.specs.declared.Flag.the-variants.{Yes, No, NoFlag}
-use Rattle.replay_script.specs.declared.Number.{Number}
-use Rattle.replay_script.specs.declared.Number.the-variants.{Given, NoNumber}
+use Rattle.replay_values.specs.Values.{theNumber, theFlag, isTheWord, theId, theData}
+use Rattle.replay_values.specs.declared.CanId.{CanId}
+use Rattle.replay_values.specs.declared.CanId.the-variants.{Is, NoId}
+use Rattle.replay_values.specs.declared.Data.{Data}
+use Rattle.replay_values.specs.declared.Flag.{Flag}
+use Rattle.replay_values.specs.declared.Flag.the-variants.{Yes, No, NoFlag}
+use Rattle.replay_digits.specs.declared.Number.{Number}
+use Rattle.replay_digits.specs.declared.Number.the-variants.{Given, NoNumber}
 use Rattle.replay_items.specs.declared.Small.{Small}
 use Rattle.replay_items.specs.declared.Word.{Word}
 use Rattle.replay_items.specs.declared.Clock.{Clock}

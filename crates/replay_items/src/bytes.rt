@@ -3,8 +3,8 @@ use crate::Ends;
 use crate::Has;
 use crate::LaidValue;
 use crate::LaidValues;
-use replay_script::Laid;
-use replay_script::Written;
+use replay_digits::Laid;
+use replay_digits::Written;
 ghost use mathlib.Core.Path.{_≡_};
 ghost use Prim.Native.Nat.{_+_, _≤_};
 ghost use lib.ListN.{length};
@@ -23,12 +23,11 @@ pub fn lent(room: &[u8], a: usize, e: usize) -> &[u8]
     &room[a..e]
 }
 
-// Lays the bytes of the only item with this key down from `at` on.
+// Lays the bytes of the only item with this key down from `at` on, if they fit.
 fn lay(line: &[u8], key: &[u8], form: Written, room: &mut [u8], at: usize) -> LaidValue
-    requires { ⌜ at + length (bytesAt form (now key) (now line)) ≤ length (now room) ⌝ }
-    ensures { λ r. ⌜ LaidAt form (now (key .entry)) (now (line .entry)) (now (room .entry)) (now (room .exit)) at r ⌝ }
+    ensures { λ r. ⌜ (at + length (bytesAt form (now (key .entry)) (now (line .entry))) ≤ length (now (room .entry)) → LaidAt form (now (key .entry)) (now (line .entry)) (now (room .entry)) (now (room .exit)) at r) ⌝ }
 {
-    let laid = replay_script::values::bytes_of(line, key, form, room, at);
+    let laid = replay_values::bytes_of(line, key, form, room, at);
     match laid {
         Laid::To(end) => LaidValue { ok: true, end },
         Laid::NoBytes => LaidValue { ok: false, end: at },

@@ -6,9 +6,9 @@ pub mod values;
 
 use frames::CanFrame;
 use frames::TxClass;
-use replay_script::CarItem;
-use replay_script::Methods;
-use replay_script::ProbeFrames;
+use replay_lists::Methods;
+use replay_lists::ProbeFrames;
+use replay_values::CarItem;
 use state::Settings;
 ghost use Prim.Native.Nat.{_≤_};
 ghost use lib.ListN.{length};
@@ -145,13 +145,13 @@ pub fn read(line: &[u8], room: &mut [u8]) -> ItemsRead
     let ends = laid.ends;
     let numbers = values::numbers(line);
     let switches = values::switches(line);
-    let car = replay_script::values::car_of(line);
+    let car = replay_values::car_of(line);
     let class = values::class(line);
     let frame = values::frame(line);
-    let frames = replay_script::lists::probe_frames(line);
+    let frames = replay_lists::frames_of(line);
     let settings = values::settings(line);
-    let methods = replay_script::lists::methods(line);
-    let nobody = replay_script::values::is_word(line, b"phone", b"none");
+    let methods = replay_lists::methods_of(line);
+    let nobody = replay_values::is_word(line, b"phone", b"none");
     let items = Items {
         count: replay_script::items(line),
         numbers,

@@ -12,10 +12,10 @@ use crate::Word;
 use frames::CanFrame;
 use frames::Id;
 use frames::TxClass;
-use replay_script::CanId;
-use replay_script::Data;
-use replay_script::Flag;
-use replay_script::Number;
+use replay_digits::Number;
+use replay_values::CanId;
+use replay_values::Data;
+use replay_values::Flag;
 use state::Settings;
 ghost use mathlib.Core.Path.{_≡_};
 ghost use Rattle.replay_items.specs.Values.{smallAt, wordAt, clockAt, placeAt, switchAt, classAt, frameWith, frameAt, settingsAt, numbersAt, switchesAt};
@@ -23,7 +23,7 @@ ghost use Rattle.replay_items.specs.Values.{smallAt, wordAt, clockAt, pl
 fn small(line: &[u8], key: &[u8]) -> Small
     ensures { λ r. ⌜ r ≡ smallAt (now (key .entry)) (now (line .entry)) ⌝ }
 {
-    let Number::Given(n) = replay_script::values::number_of(line, key, 255) else {
+    let Number::Given(n) = replay_values::number_of(line, key, 255) else {
         return Small {
             ok: false,
             value: 0,
@@ -38,7 +38,7 @@ fn small(line: &[u8], key: &[u8]) -> Small
 fn word(line: &[u8], key: &[u8]) -> Word
     ensures { λ r. ⌜ r ≡ wordAt (now (key .entry)) (now (line .entry)) ⌝ }
 {
-    let Number::Given(n) = replay_script::values::number_of(line, key, 4294967295) else {
+    let Number::Given(n) = replay_values::number_of(line, key, 4294967295) else {
         return Word {
             ok: false,
             value: 0,
@@ -53,8 +53,7 @@ fn word(line: &[u8], key: &[u8]) -> Word
 fn clock(line: &[u8]) -> Clock
     ensures { λ r. ⌜ r ≡ clockAt (now (line .entry)) ⌝ }
 {
-    let Number::Given(n) = replay_script::values::number_of(line, b"now", 18446744073709551615)
-    else {
+    let Number::Given(n) = replay_values::number_of(line, b"now", 18446744073709551615) else {
         return Clock {
             ok: false,
             value: 0,
@@ -66,7 +65,7 @@ fn clock(line: &[u8]) -> Clock
 fn up_to(line: &[u8], key: &[u8], most: u64) -> Place
     ensures { λ r. ⌜ r ≡ placeAt most (now (key .entry)) (now (line .entry)) ⌝ }
 {
-    let Number::Given(n) = replay_script::values::number_of(line, key, most) else {
+    let Number::Given(n) = replay_values::number_of(line, key, most) else {
         return Place {
             ok: false,
             value: 0,
@@ -81,7 +80,7 @@ fn up_to(line: &[u8], key: &[u8], most: u64) -> Place
 fn switch(line: &[u8], key: &[u8]) -> Switch
     ensures { λ r. ⌜ r ≡ switchAt (now (key .entry)) (now (line .entry)) ⌝ }
 {
-    let f = replay_script::values::flag_of(line, key);
+    let f = replay_values::flag_of(line, key);
     match f {
         Flag::Yes => Switch { ok: true, on: true },
         Flag::No => Switch {
@@ -98,13 +97,13 @@ fn switch(line: &[u8], key: &[u8]) -> Switch
 pub fn class(line: &[u8]) -> ClassItem
     ensures { λ r. ⌜ r ≡ classAt (now (line .entry)) ⌝ }
 {
-    if replay_script::values::is_word(line, b"class", b"platform") {
+    if replay_values::is_word(line, b"class", b"platform") {
         return ClassItem {
             ok: true,
             class: TxClass::Platform,
         };
     }
-    if replay_script::values::is_word(line, b"class", b"command") {
+    if replay_values::is_word(line, b"class", b"command") {
         return ClassItem {
             ok: true,
             class: TxClass::Command,
@@ -146,10 +145,10 @@ fn frame_with(id: CanId, own: Small, dlc: Small, eight: Data) -> FrameItem
 pub fn frame(line: &[u8]) -> FrameItem
     ensures { λ r. ⌜ r ≡ frameAt (now (line .entry)) ⌝ }
 {
-    let id = replay_script::values::can_id_of(line);
+    let id = replay_values::can_id_of(line);
     let own = small(line, b"frame_bus");
     let dlc = small(line, b"dlc");
-    let eight = replay_script::values::data_of(line);
+    let eight = replay_values::data_of(line);
     frame_with(id, own, dlc, eight)
 }
 

@@ -5,7 +5,7 @@ use Prim.Native.Nat.{ℕ, zero, suc, _^_, _+_, _≤_, _<_}
 use native.Mathlib.Nat.{le-of-eq}
 use native.Mathlib.Omega.{arith}
 use lib.Dec.{lit≤}
-use lib.ListN.{length, getD}
+use lib.ListN.{length, take, getD}
 use mir.Val.{Val}
 use denote.Array.{each}
 use denote.Laws.{Is}
@@ -18,15 +18,19 @@ use Rattle.state.specs.declared.Answer.the-variants.{Done, Yes, No, Nothing, Co
 use Rattle.state.specs.Running.{pastMethods}
 use Rattle.state.specs.declared.Method.{Method}
 use Rattle.state.specs.declared.SessionReply.{SessionReply}
+use Rattle.saved_record.specs.declared.SavedRecord.{SavedRecord}
+use Rattle.saved_record.proofs.SavedRecord as SavedRecord
 use Rattle.state.proofs.Answer as Answer
 use Rattle.state.proofs.Method as Method
 use Rattle.state.proofs.SessionReply as SessionReply
 use Rattle.replay_lines.specs.declared.answer.Held.{Held}
 use Rattle.replay_lines.specs.declared.answer.Held.the-variants.{Fine, Blank, Item, Part, Reply, Wrong}
 use Rattle.replay_lines.specs.Answer.{nameOf, heldBy, statusName, reply, behind, answer}
-use Rattle.replay_lines.specs.Room.{Within}
+use Rattle.replay_page.specs.Page.{bytes}
+use Rattle.replay_page.specs.Room.{Within}
 use Rattle.replay_lines.specs.Table.{keyNames, keys}
-use Rattle.replay_lines.proofs.Room.{_⊕_, upto, same, item-in, flag-in, word-in, kind-word-in, status-in, short}
+use Rattle.replay_page.proofs.Room.{_⊕_, upto, same, item-in, flag-in, word-in, part-in, short}
+use Rattle.replay_lines.proofs.Room.{kind-word-in, status-in}
 
 abbrev pub Owned : (F : Field) → F .Value → List Val → Type 0
 Owned F x vs = Is (F .row) (F .into x) vs
@@ -41,6 +45,9 @@ method-ids [] us h i = lit≤ tt
 method-ids (m ∷ ms) [] h i = absurd h
 method-ids (m ∷ ms) (u ∷ us) h zero = each-id m (u ∷ []) (h .0)
 method-ids (m ∷ ms) (u ∷ us) h (suc i) = method-ids ms us (h .1) i
+
+pub saved-in : (r : SavedRecord) (vs : List Val) → Owned SavedRecord.the-field r vs → Within 8716 (bytes (take (r .len) (r .bytes)))
+saved-in r vs h = part-in (r .bytes) (r .len) 4358 (le-of-eq (search needs))
 
 -- ---- keys, and the session reply
 

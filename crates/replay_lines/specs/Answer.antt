@@ -15,7 +15,7 @@ use Rattle.state.specs.declared.Status.{Status}
 use Rattle.state.specs.declared.Status.the-variants.{InProgress, Succeeded, Failed, Cancelled, TimedOut}
 use Rattle.replay_lines.specs.declared.answer.Held.{Held}
 use Rattle.replay_lines.specs.declared.answer.Held.the-variants.{Fine, Blank, Item, Part, Reply, Wrong}
-use Rattle.replay_lines.specs.Page.{Page, _▸_, text, item, flag, word}
+use Rattle.replay_page.specs.Page.{Page, _▸_, text, item, flag, word}
 use Rattle.replay_lines.specs.Table.{keys, keyOf}
 
 -- the name of an answer, and what it holds

@@ -2,7 +2,7 @@
 use mathlib.Core.List.{List, [], _∷_}
 use Prim.Native.Nat.{ℕ}
 use lib.ListN.{take, getD}
-use Rattle.replay_lines.specs.Page.{Page, _▸_, text, bytes, item, flag, word, known, digits}
+use Rattle.replay_page.specs.Page.{Page, _▸_, text, bytes, item, flag, word, known, digits}
 use Rattle.replay_lines.specs.Table.{keys, words}
 use Rattle.replay_lines.specs.declared.fields.Field.{Field}
 use Rattle.replay_lines.specs.declared.fields.Field.the-variants.{Nothing, Key, Number, Flag, Word, Bytes, Digits, Known}

@@ -2,7 +2,7 @@
 use mathlib.Core.List.{List}
 use Prim.Native.Nat.{ℕ}
 use Rattle.ascii.specs.Ascii.{ascii}
-use Rattle.replay_lines.specs.Page.{Page, _▸_, text, bytes}
+use Rattle.replay_page.specs.Page.{Page, _▸_, text, bytes}
 
 -- how many bytes a line can lend: it has at most 16,384, and each byte is two of them
 abbrev pub mostLent : ℕ

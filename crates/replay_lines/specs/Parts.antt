@@ -5,7 +5,7 @@ use Rattle.ascii.specs.Ascii.{ascii}
 use Rattle.phones.specs.Phones.{idBytes}
 use Rattle.state.specs.declared.Method.{Method}
 use Rattle.replay_lines.specs.Answer.{kindName}
-use Rattle.replay_lines.specs.Page.{Page, _▸_, text, bytes, comma, flag}
+use Rattle.replay_page.specs.Page.{Page, _▸_, text, bytes, comma, flag}
 
 -- the id at place i of a list
 unfoldable pub idAt : ℕ → List ℕ → Page → Page

@@ -10,7 +10,7 @@ ghost use mathlib.Core.Path.{_≡_};
 ghost use mathlib.Core.List.{[]};
 ghost use lib.Dec.{eqb};
 ghost use lib.ListN.{getD};
-ghost use Rattle.replay_lines.specs.Page.{page};
+ghost use Rattle.replay_page.specs.Page.{page};
 ghost use Rattle.replay_lines.specs.Table.{words, wordOf};
 ghost use Rattle.replay_lines.specs.Answer.{nameOf, heldBy, isOutOfRange, kindName, statusName, reply, behind, answer};
 

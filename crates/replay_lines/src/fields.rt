@@ -1,9 +1,9 @@
 // A printed line as a list of fields, each a key and a value.
 ghost use mathlib.Core.Path.{_≡_};
 ghost use mathlib.Core.List.{[]};
-ghost use lib.ListN.{take, getD};
+ghost use lib.ListN.{getD};
 ghost use Rattle.word_table.specs.Words.{linesOf};
-ghost use Rattle.replay_lines.specs.Page.{page, text, bytes, known, digits};
+ghost use Rattle.replay_page.specs.Page.{page, text};
 ghost use Rattle.replay_lines.specs.Table.{keys, words};
 ghost use Rattle.replay_lines.specs.Fields.{putField, putFields};
 
@@ -27,7 +27,7 @@ fn put_row(out: &mut [u8], at: usize, table: &[u8], n: usize) -> usize
     let row = word_table::row_at(table, n);
     let from = row.0;
     let to = row.1;
-    crate::put_part(out, at, table, from, to)
+    replay_page::put_part(out, at, table, from, to)
 }
 
 fn put_key(out: &mut [u8], at: usize, n: usize) -> usize
@@ -42,35 +42,6 @@ pub fn put_word(out: &mut [u8], at: usize, n: usize) -> usize
     put_row(out, at, &crate::word::WORDS, n)
 }
 
-// The first n bytes, or all if there are fewer.
-pub fn put_first(out: &mut [u8], at: usize, src: &[u8], n: usize) -> usize
-    ensures { λ r. ⌜ page (now (out .exit)) r ≡ bytes (take n (now (src .entry))) (page (now (out .entry)) at) ⌝ }
-{
-    if src.len() < n {
-        return crate::put_bytes(out, at, src);
-    }
-    crate::put_bytes(out, at, &src[..n])
-}
-
-// The first n digits.
-pub fn put_digits(out: &mut [u8], at: usize, code: &[u8], n: usize) -> usize
-    ensures { λ r. ⌜ page (now (out .exit)) r ≡ digits (now (code .entry)) n (page (now (out .entry)) at) ⌝ }
-{
-    if n == 0 {
-        return crate::put_text(out, at, b"-");
-    }
-    put_first(out, at, code, n)
-}
-
-fn put_known(out: &mut [u8], at: usize, src: &[u8], yes: bool) -> usize
-    ensures { λ r. ⌜ page (now (out .exit)) r ≡ known yes (now (src .entry)) (page (now (out .entry)) at) ⌝ }
-{
-    if yes {
-        return crate::put_bytes(out, at, src);
-    }
-    crate::put_text(out, at, b"none")
-}
-
 pub fn put_field(out: &mut [u8], at: usize, lent: &[u8], f: Field) -> usize
     ensures { λ r. ⌜ page (now (out .exit)) r ≡ putField (now (lent .entry)) f (page (now (out .entry)) at) ⌝ }
 {
@@ -79,11 +50,11 @@ pub fn put_field(out: &mut [u8], at: usize, lent: &[u8], f: Field) -> usize
         Field::Key(k) => put_key(out, at, k),
         Field::Number(k, n) => {
             let i = put_key(out, at, k);
-            crate::put_number(out, i, n)
+            replay_page::put_number(out, i, n)
         }
         Field::Flag(k, b) => {
             let i = put_key(out, at, k);
-            crate::put_yes_no(out, i, b)
+            replay_page::put_yes_no(out, i, b)
         }
         Field::Word(k, w) => {
             let i = put_key(out, at, k);
@@ -91,15 +62,15 @@ pub fn put_field(out: &mut [u8], at: usize, lent: &[u8], f: Field) -> usize
         }
         Field::Bytes(k, n) => {
             let i = put_key(out, at, k);
-            put_first(out, i, lent, n)
+            replay_page::put_first(out, i, lent, n)
         }
         Field::Digits(k, n) => {
             let i = put_key(out, at, k);
-            put_digits(out, i, lent, n)
+            replay_page::put_digits(out, i, lent, n)
         }
         Field::Known(k, b) => {
             let i = put_key(out, at, k);
-            put_known(out, i, lent, b)
+            replay_page::put_known(out, i, lent, b)
         }
     }
 }

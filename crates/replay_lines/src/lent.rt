@@ -5,7 +5,7 @@ ghost use mathlib.Core.Path.{_≡_};
 ghost use Prim.Native.Nat.{_≤_};
 ghost use lib.ListN.{length, take};
 ghost use Rattle.replay_lines.specs.Lent.{mostLent, output};
-ghost use Rattle.replay_lines.specs.Page.{page};
+ghost use Rattle.replay_page.specs.Page.{page};
 
 // The bytes stand in front.
 pub fn copy_of(lent: &[u8]) -> [u8; 8192]

@@ -6,7 +6,7 @@ use state::Method;
 ghost use mathlib.Core.Path.{_≡_};
 ghost use lib.ListN.{take};
 ghost use Rattle.phones.specs.Phones.{idBytes, phonesOf};
-ghost use Rattle.replay_lines.specs.Page.{page, bytes};
+ghost use Rattle.replay_page.specs.Page.{page, bytes};
 ghost use Rattle.replay_lines.specs.Parts.{idAt, idsFrom, method};
 
 // An id.
@@ -14,15 +14,15 @@ pub fn put_phone(out: &mut [u8], at: usize, p: ShortId) -> usize
     ensures { λ r. ⌜ page (now (out .exit)) r ≡ bytes (idBytes p) (page (now (out .entry)) at) ⌝ }
 {
     let all = p.bytes;
-    crate::fields::put_first(out, at, &all, p.len)
+    replay_page::put_first(out, at, &all, p.len)
 }
 
 // The id at place `i` of a list.
 fn put_phone_at(out: &mut [u8], at: usize, i: usize, id: &[u8]) -> usize
     ensures { λ r. ⌜ page (now (out .exit)) r ≡ idAt i (now (id .entry)) (page (now (out .entry)) at) ⌝ }
 {
-    let k = crate::put_comma(out, at, i);
-    crate::put_bytes(out, k, id)
+    let k = replay_page::put_comma(out, at, i);
+    replay_page::put_bytes(out, k, id)
 }
 
 // The ids of a list.
@@ -51,11 +51,11 @@ pub fn put_method(out: &mut [u8], at: usize, m: Method) -> usize
 {
     let id = m.id;
     let k = put_phone(out, at, id);
-    let k = crate::put_text(out, k, b"/");
+    let k = replay_page::put_text(out, k, b"/");
     let what = m.kind;
     let kind = crate::answer::kind_word(what);
     let k = crate::fields::put_word(out, k, kind);
-    crate::put_flag(out, k, b"/", m.needs_approval)
+    replay_page::put_flag(out, k, b"/", m.needs_approval)
 }
 
 // A saved record.
@@ -63,5 +63,5 @@ pub fn put_saved(out: &mut [u8], at: usize, saved: SavedRecord) -> usize
     ensures { λ r. ⌜ page (now (out .exit)) r ≡ bytes (take (saved .len) (saved .bytes)) (page (now (out .entry)) at) ⌝ }
 {
     let all = saved.bytes;
-    crate::fields::put_first(out, at, &all, saved.len)
+    replay_page::put_first(out, at, &all, saved.len)
 }

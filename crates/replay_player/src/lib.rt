@@ -1,5 +1,5 @@
 // Plays one line of a script on the host's gate: reads it, makes its call and lays down what it gives. That is `played` of
-// specs/Played.antt, which speaks of the calls by the gate's one definition, `step`.
+// replay_played/specs/Played.antt, which speaks of the calls by the gate's one definition, `step`.
 use replay_given::Played;
 use replay_host::Host;
 use replay_items::Ends;
@@ -12,29 +12,10 @@ ghost use lib.ListN.{length};
 ghost use Rattle.arrays.specs.Arrays.{put};
 ghost use Rattle.replay_items.specs.Bytes.{lentBytes, bytesOf, joined};
 ghost use Rattle.replay_lines.specs.Lent.{mostLent};
-ghost use Rattle.replay_lines.specs.Page.{page, text};
+ghost use Rattle.replay_page.specs.Page.{page};
 ghost use Rattle.replay_calls.specs.Calls.{lineOf};
 ghost use Rattle.replay_given.specs.Turns.{turnOf, ran, TurnFits};
-ghost use Rattle.replay_player.specs.Played.{begun, errorOf, failed, ended, played, stateLine, withState, PlayedFits, mostRead, EveryLineFits, FromBadNew, passedOver, tooLong};
-
-// line=N call=WORD
-fn put_begin(out: &mut [u8], at: usize, number: u64, word: &[u8]) -> usize
-    ensures { λ r. ⌜ page (now (out .exit)) r ≡ begun number (now (word .entry)) (page (now (out .entry)) at) ⌝ }
-{
-    let k = replay_lines::put_item(out, at, b"line=", number);
-    let k = replay_lines::put_text(out, k, b" call=");
-    replay_lines::put_text(out, k, word)
-}
-
-// Why a line is no call.
-fn put_error(out: &mut [u8], at: usize, name: usize) -> usize
-    ensures { λ r. ⌜ page (now (out .exit)) r ≡ text (errorOf name) (page (now (out .entry)) at) ⌝ }
-{
-    if replay_names::is_name(name) {
-        return replay_lines::put_text(out, at, b" error=bad_items");
-    }
-    replay_lines::put_text(out, at, b" error=unknown_call")
-}
+ghost use Rattle.replay_played.specs.Played.{begun, failed, ended, played, stateLine, withState, PlayedFits, mostRead, EveryLineFits, FromBadNew};
 
 // A line whose items are right.
 fn play_call(
@@ -50,9 +31,9 @@ fn play_call(
     requires { ⌜ length (lentBytes p (now room) .output) ≤ mostLent ⌝ }
     ensures { λ r. ⌜ (turnOf r (now (out .exit)) ≡ ended (ran (lineOf name i (lentBytes p (now (room .entry)))) h (begun number (now (word .entry)) (page (now (out .entry)) 0)))) × TurnFits (ran (lineOf name i (lentBytes p (now (room .entry)))) h) ⌝ }
 {
-    let k = put_begin(out, 0, number, word);
+    let k = replay_played::put_begin(out, 0, number, word);
     let mut r = replay_steps::run(h, name, i, p, room, out, k);
-    r.at = replay_lines::put_text(out, r.at, b"\n");
+    r.at = replay_page::put_text(out, r.at, b"\n");
     r
 }
 
@@ -60,9 +41,9 @@ fn play_call(
 fn play_error(h: Host, number: u64, name: usize, out: &mut [u8]) -> Played
     ensures { λ r. ⌜ turnOf r (now (out .exit)) ≡ ended (failed name h number (page (now (out .entry)) 0)) ⌝ }
 {
-    let k = replay_lines::put_item(out, 0, b"line=", number);
-    let k = put_error(out, k, name);
-    let k = replay_lines::put_text(out, k, b"\n");
+    let k = replay_page::put_item(out, 0, b"line=", number);
+    let k = replay_played::put_error(out, k, name);
+    let k = replay_page::put_text(out, k, b"\n");
     replay_given::not_called(h, k)
 }
 
@@ -73,10 +54,17 @@ fn play_line(h: Host, number: u64, line: &[u8], room: &mut [u8], out: &mut [u8])
     let e = replay_script::name_end(line);
     let name = replay_names::name_of(&line[..e]);
     let read = replay_items::read(line, room);
-    let i = read.items;
-    let p = read.ends;
-    if replay_items::takes::takes(name, i) {
-        return play_call(h, number, &line[..e], name, i, p, room, out);
+    if replay_items::takes::takes(name, read.items) {
+        return play_call(
+            h,
+            number,
+            &line[..e],
+            name,
+            read.items,
+            read.ends,
+            room,
+            out,
+        );
     }
     play_error(h, number, name, out)
 }
@@ -85,9 +73,9 @@ fn play_line(h: Host, number: u64, line: &[u8], room: &mut [u8], out: &mut [u8])
 fn put_state(out: &mut [u8], at: usize, number: u64, g: Gate) -> usize
     ensures { λ r. ⌜ page (now (out .exit)) r ≡ stateLine number g (page (now (out .entry)) at) ⌝ }
 {
-    let k = put_begin(out, at, number, b"state");
+    let k = replay_played::put_begin(out, at, number, b"state");
     let k = replay_state::put_gate(out, k, g);
-    replay_lines::put_text(out, k, b"\n")
+    replay_page::put_text(out, k, b"\n")
 }
 
 // The line, and the state behind every call if that is asked for.
@@ -105,8 +93,7 @@ pub fn play(
     let mut r = play_line(h, number, line, room, out);
     if states {
         if r.called {
-            let g = r.host.gate;
-            r.at = put_state(out, r.at, number, g);
+            r.at = put_state(out, r.at, number, r.host.gate);
         }
     }
     r
@@ -127,24 +114,5 @@ pub fn first_host() -> Host
     let none = state::running::no_method();
     let list = [none; 8];
     let made = gate_sessions::new_gate(settings, list, 0);
-    let gate = made.gate;
-    replay_host::first_host(gate)
-}
-
-// Whether a line is passed over: it is empty or begins with `#`.
-pub fn is_passed_over(line: &[u8]) -> bool
-    ensures { λ r. ⌜ r ≡ passedOver (now (line .entry)) ⌝ }
-{
-    if line.len() == 0 {
-        return true;
-    }
-    line[0] == b'#'
-}
-
-// What a line that is too long to be read gives.
-pub fn put_too_long(number: u64, out: &mut [u8]) -> usize
-    ensures { λ r. ⌜ page (now (out .exit)) r ≡ tooLong number (page (now (out .entry)) 0) ⌝ }
-{
-    let k = replay_lines::put_item(out, 0, b"line=", number);
-    replay_lines::put_text(out, k, b" error=line_too_long\n")
+    replay_host::first_host(made.gate)
 }

@@ -2,7 +2,7 @@
 use Rattle.answers.specs.Query.{plain, approval, access, phones, trust, peer, phoneAccess, methods, challenge, saved, preview, report}
 use Rattle.definition.specs.Gate.{PackedReply}
 use Rattle.replay_lines.specs.Answer.{answer}
-use Rattle.replay_lines.specs.Page.{Page}
+use Rattle.replay_page.specs.Page.{Page}
 use Rattle.replay_answers.specs.Query as Lines
 use Rattle.replay_frames.specs.Frames as Frames
 

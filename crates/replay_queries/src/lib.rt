@@ -8,8 +8,8 @@ ghost use Rattle.answers.specs.Query.{plain};
 ghost use Rattle.definition.specs.Gate.{ask, answered, step};
 ghost use Rattle.replay_items.specs.Bytes.{lentBytes};
 ghost use Rattle.replay_answers.specs.Query.{longRoom};
-ghost use Rattle.replay_lines.specs.Page.{page};
-ghost use Rattle.replay_lines.specs.Room.{Within};
+ghost use Rattle.replay_page.specs.Page.{page};
+ghost use Rattle.replay_page.specs.Room.{Within};
 ghost use Rattle.replay_calls.specs.Calls.{plainQuery, longQuery};
 ghost use Rattle.replay_queries.specs.Shown.{shown};
 

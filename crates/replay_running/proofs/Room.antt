@@ -26,9 +26,10 @@ use Rattle.state.proofs.Probe as Probe
 use Rattle.state.proofs.Session as Session
 use Rattle.state.proofs.Window as Window
 use Rattle.replay_lines.specs.Answer.{statusName}
-use Rattle.replay_lines.specs.Room.{Within}
+use Rattle.replay_page.specs.Room.{Within}
 use Rattle.replay_lines.proofs.AnswerRoom.{Owned}
-use Rattle.replay_lines.proofs.Room.{_⊕_, upto, either, same, text-in, bytes-in, comma-in, item-in, word-in, digits-in, id-in, hexadecimal-in, status-in}
+use Rattle.replay_page.proofs.Room.{_⊕_, upto, either, same, text-in, bytes-in, comma-in, item-in, word-in, digits-in, hexadecimal-in}
+use Rattle.replay_lines.proofs.Room.{id-in, status-in}
 use Rattle.replay_running.specs.Probe.{idText, frame, noFrame, frameAt, framesTo, sentAt, sentTo, window, mark, marks, probe}
 use Rattle.replay_running.specs.Session.{code, whose, stands, sessionOrNone}
 

@@ -10,7 +10,7 @@ use Rattle.frames.specs.declared.Id.the-variants.{Standard, Extended}
 use Rattle.frames.specs.declared.ProbeFrame.{ProbeFrame}
 use Rattle.state.specs.declared.Probe.{Probe}
 use Rattle.state.specs.declared.Window.{Window}
-use Rattle.replay_lines.specs.Page.{Page, _▸_, text, bytes, comma, item, word, hexadecimal}
+use Rattle.replay_page.specs.Page.{Page, _▸_, text, bytes, comma, item, word, hexadecimal}
 
 -- KIND/ID
 abbrev pub idText : Id → Page → Page

@@ -9,7 +9,7 @@ use Rattle.state.specs.declared.Gate.{Gate}
 use Rattle.state.specs.declared.Methods.{Methods}
 use Rattle.state.specs.declared.Session.{Session}
 use Rattle.replay_lines.specs.Answer.{statusName}
-use Rattle.replay_lines.specs.Page.{Page, _▸_, text, bytes, digits, item, word}
+use Rattle.replay_page.specs.Page.{Page, _▸_, text, bytes, digits, item, word}
 
 -- the code is kept while a code entry session is in progress
 unfoldable pub code : Methods → Session → List ℕ → ℕ → Page → Page

@@ -10,7 +10,7 @@ ghost use mathlib.Core.Path.{_≡_};
 ghost use mathlib.Core.List.{[]};
 ghost use Prim.Native.Nat.{_<_};
 ghost use lib.ListN.{getD};
-ghost use Rattle.replay_lines.specs.Page.{page};
+ghost use Rattle.replay_page.specs.Page.{page};
 ghost use Rattle.replay_lines.specs.Table.{keys};
 ghost use Rattle.replay_running.specs.Probe.{idText, frame, frameAt, framesTo, sentAt, sentTo, window, mark, marks, probe};
 
@@ -20,12 +20,12 @@ pub fn put_id(out: &mut [u8], at: usize, id: Id) -> usize
 {
     match id {
         Id::Standard(n) => {
-            let k = replay_lines::put_text(out, at, b"std/");
-            replay_lines::put_hexadecimal(out, k, n)
+            let k = replay_page::put_text(out, at, b"std/");
+            replay_page::put_hexadecimal(out, k, n)
         }
         Id::Extended(n) => {
-            let k = replay_lines::put_text(out, at, b"ext/");
-            replay_lines::put_hexadecimal(out, k, n)
+            let k = replay_page::put_text(out, at, b"ext/");
+            replay_page::put_hexadecimal(out, k, n)
         }
     }
 }
@@ -36,9 +36,9 @@ fn put_frame(out: &mut [u8], at: usize, f: ProbeFrame) -> usize
 {
     let id = f.id;
     let k = put_id(out, at, id);
-    let k = replay_lines::put_text(out, k, b"/");
+    let k = replay_page::put_text(out, k, b"/");
     let data = f.data;
-    replay_lines::put_bytes(out, k, &data)
+    replay_page::put_bytes(out, k, &data)
 }
 
 // The frame at a place, if there is one.
@@ -47,7 +47,7 @@ fn put_frame_at(out: &mut [u8], at: usize, w: Window, i: usize) -> usize
     ensures { λ r. ⌜ page (now (out .exit)) r ≡ frameAt w i (page (now (out .entry)) at) ⌝ }
 {
     if i < w.count {
-        let k = replay_lines::put_comma(out, at, i);
+        let k = replay_page::put_comma(out, at, i);
         let f = w.frames[i];
         return put_frame(out, k, f);
     }
@@ -74,9 +74,9 @@ fn put_sent_at(out: &mut [u8], at: usize, w: Window, i: usize) -> usize
     if i < w.count {
         let one = w.sent[i];
         if one {
-            return replay_lines::put_text(out, at, b"1");
+            return replay_page::put_text(out, at, b"1");
         }
-        return replay_lines::put_text(out, at, b"0");
+        return replay_page::put_text(out, at, b"0");
     }
     at
 }

@@ -6,7 +6,7 @@ use state::Gate;
 use state::Methods;
 use state::Session;
 ghost use mathlib.Core.Path.{_≡_};
-ghost use Rattle.replay_lines.specs.Page.{page};
+ghost use Rattle.replay_page.specs.Page.{page};
 ghost use Rattle.replay_running.specs.Session.{code, whose, stands, sessionOrNone};
 
 // The code is kept while a code entry session is in progress.

@@ -43,6 +43,11 @@ only (v ∷ w ∷ vs) = []
 unfoldable pub itemOf : List ℕ → List ℕ → List (List ℕ)
 itemOf key line = only (valuesOf key (itemsOf line))
 
+-- the first of a list; nothing if there is none
+unfoldable pub firstOf : List (List ℕ) → List ℕ
+firstOf [] = []
+firstOf (v ∷ vs) = v
+
 -- r marks it; if it marks none, there is none, and where its places lie in the line is open
 pub record Only (line : List ℕ) (key : List ℕ) (r : Span) : Type 0 where
   pub value : itemOf key line ≡ shown line r []

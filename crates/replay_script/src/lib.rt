@@ -1,106 +1,16 @@
 // Reading a line of a script: the name of a call, then items `key=value`, each behind one space.
-pub mod lists;
-pub mod values;
-
-use frames::Id;
-use frames::ProbeFrame;
-use phones::ShortId;
-use state::Car;
-use state::Kind;
-use state::Method;
 ghost use mathlib.Core.Path.{_≡_};
 ghost use Prim.Native.Nat.{_+_};
 ghost use lib.ListN.{length, drop};
 ghost use Rattle.replay_script.specs.Words.{itemsOf};
 ghost use Rattle.word_table.specs.Words.{before};
-ghost use Rattle.replay_script.specs.Places.{hasKey, noSpan, Next, Only};
-
-pub enum Number {
-    Given(u64),
-    NoNumber,
-}
-
-pub enum Flag {
-    Yes,
-    No,
-    NoFlag,
-}
-
-// How bytes may be written: as pairs of hexadecimal digits alone, or as text too.
-pub enum Written {
-    Hex,
-    HexOrText,
-}
-
-// The place after the bytes that were laid down.
-pub enum Laid {
-    To(usize),
-    NoBytes,
-}
-
-pub enum CanId {
-    Is(Id),
-    NoId,
-}
-
-// Eight bytes, or none (and zeros).
-pub struct Data {
-    pub ok: bool,
-    pub bytes: [u8; 8],
-}
-
-// A car's digest, or the word none; not `ok`: neither.
-pub struct CarItem {
-    pub ok: bool,
-    pub car: Car,
-}
-
-// The methods of a new gate: the first eight, and how many there are; not `ok`: one is not of its form.
-pub struct Methods {
-    pub ok: bool,
-    pub list: [Method; 8],
-    pub count: usize,
-}
-
-// The frames of a probe: the first four, and how many there are; not `ok`: one is not of its form.
-pub struct ProbeFrames {
-    pub ok: bool,
-    pub list: [ProbeFrame; 4],
-    pub count: usize,
-}
+ghost use Rattle.replay_script.specs.Places.{hasKey, noSpan, Next, itemOf, firstOf, Only};
 
 // A part of a line, from `start` to before `end`; not `ok`: there is none.
-struct Span {
-    ok: bool,
-    start: usize,
-    end: usize,
-}
-
-// The places of the two slashes of a value of three parts; not `ok`: it has not three.
-struct Slashes {
-    ok: bool,
-    one: usize,
-    two: usize,
-}
-
-struct IdItem {
-    ok: bool,
-    id: ShortId,
-}
-
-enum KindItem {
-    Of(Kind),
-    NoKind,
-}
-
-struct MethodItem {
-    ok: bool,
-    method: Method,
-}
-
-struct FrameItem {
-    ok: bool,
-    frame: ProbeFrame,
+pub struct Span {
+    pub ok: bool,
+    pub start: usize,
+    pub end: usize,
 }
 
 fn no_span() -> Span
@@ -161,7 +71,7 @@ fn has_key(word: &[u8], key: &[u8]) -> bool
 }
 
 // The value of the next item with this key behind the word at `from`.
-fn next(line: &[u8], from: usize, key: &[u8]) -> Span
+pub fn next(line: &[u8], from: usize, key: &[u8]) -> Span
     ensures { λ r. ⌜ Next (now (line .entry)) from (now (key .entry)) r ⌝ }
 {
     let mut at = find(line, from, b' ');
@@ -181,7 +91,7 @@ fn next(line: &[u8], from: usize, key: &[u8]) -> Span
 }
 
 // The value of the only item with this key.
-fn item(line: &[u8], key: &[u8]) -> Span
+pub fn item(line: &[u8], key: &[u8]) -> Span
     ensures { λ r. ⌜ Only (now (line .entry)) (now (key .entry)) r ⌝ }
 {
     let none = no_span();
@@ -194,4 +104,17 @@ fn item(line: &[u8], key: &[u8]) -> Span
         return first;
     }
     none
+}
+
+// Its bytes; none if there is no such item.
+pub fn value<'a>(line: &'a [u8], key: &[u8]) -> &'a [u8]
+    ensures { λ r. ⌜ now r ≡ firstOf (itemOf (now (key .entry)) (now (line .entry))) ⌝ }
+{
+    let v = item(line, key);
+    if v.ok {
+        let a = v.start;
+        let e = v.end;
+        return &line[a..e];
+    }
+    &line[..0]
 }

@@ -21,10 +21,10 @@ use Rattle.state.proofs.Challenge as Challenge
 use Rattle.state.proofs.ChallengeSignal as ChallengeSignal
 use Rattle.state.proofs.Signals as Signals
 use Rattle.state.proofs.ValidationsSignal as ValidationsSignal
-use Rattle.replay_lines.specs.Room.{Within}
+use Rattle.replay_page.specs.Room.{Within}
 use Rattle.replay_lines.proofs.AnswerRoom.{Owned}
-use Rattle.replay_lines.proofs.Room.{_⊕_, upto, either, same, text-in, number-in, bytes-in, yes-no-in, item-in, digits-in}
-use Rattle.replay_lines.proofs.StoreRoom.{saved-in}
+use Rattle.replay_page.proofs.Room.{_⊕_, upto, either, same, text-in, number-in, bytes-in, yes-no-in, item-in, digits-in}
+use Rattle.replay_lines.proofs.AnswerRoom.{saved-in}
 use Rattle.replay_signals.specs.Signals.{next, raised, readOnly, approval, validations, running, challenge, ended, listed, signals}
 
 next-in : (from : ℕ) (name : List ℕ) → Within (1 + length name) (next from name)

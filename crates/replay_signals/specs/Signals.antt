@@ -11,7 +11,7 @@ use Rattle.state.specs.declared.ChallengeSignal.{ChallengeSignal}
 use Rattle.state.specs.declared.ReadOnlySignal.{ReadOnlySignal}
 use Rattle.state.specs.declared.Signals.{Signals}
 use Rattle.state.specs.declared.ValidationsSignal.{ValidationsSignal}
-use Rattle.replay_lines.specs.Page.{Page, _▸_, text, number, bytes, digits, item, yesNo}
+use Rattle.replay_page.specs.Page.{Page, _▸_, text, number, bytes, digits, item, yesNo}
 
 -- a name; a comma before it, unless the list begins here
 unfoldable pub next : ℕ → List ℕ → Page → Page

@@ -6,7 +6,7 @@ use state::ReadOnlySignal;
 use state::Signals;
 use state::ValidationsSignal;
 ghost use mathlib.Core.Path.{_≡_};
-ghost use Rattle.replay_lines.specs.Page.{page};
+ghost use Rattle.replay_page.specs.Page.{page};
 ghost use Rattle.replay_signals.specs.Signals.{next, raised, readOnly, approval, validations, running, challenge, ended, listed, signals};
 
 // The name of a signal; a comma before it, unless the list begins here.
@@ -14,10 +14,10 @@ fn put_next(out: &mut [u8], at: usize, from: usize, name: &[u8]) -> usize
     ensures { λ r. ⌜ page (now (out .exit)) r ≡ next from (now (name .entry)) (page (now (out .entry)) at) ⌝ }
 {
     if at == from {
-        return replay_lines::put_text(out, at, name);
+        return replay_page::put_text(out, at, name);
     }
-    let k = replay_lines::put_text(out, at, b",");
-    replay_lines::put_text(out, k, name)
+    let k = replay_page::put_text(out, at, b",");
+    replay_page::put_text(out, k, name)
 }
 
 fn put_raised(out: &mut [u8], at: usize, from: usize, sent: bool, name: &[u8]) -> usize
@@ -34,7 +34,7 @@ fn put_read_only(out: &mut [u8], at: usize, from: usize, s: ReadOnlySignal) -> u
 {
     if s.sent {
         let k = put_next(out, at, from, b"R:");
-        return replay_lines::put_yes_no(out, k, s.value);
+        return replay_page::put_yes_no(out, k, s.value);
     }
     at
 }
@@ -46,9 +46,9 @@ fn put_approval(out: &mut [u8], at: usize, from: usize, s: ApprovalSignal) -> us
         let k = put_next(out, at, from, b"P:");
         if s.car.known {
             let digest = s.car.digest;
-            return replay_lines::put_bytes(out, k, &digest);
+            return replay_page::put_bytes(out, k, &digest);
         }
-        return replay_lines::put_text(out, k, b"erase");
+        return replay_page::put_text(out, k, b"erase");
     }
     at
 }
@@ -59,7 +59,7 @@ fn put_validations(out: &mut [u8], at: usize, from: usize, s: ValidationsSignal)
     if s.sent {
         let k = put_next(out, at, from, b"S:");
         if s.stored.len == 0 {
-            return replay_lines::put_text(out, k, b"erase");
+            return replay_page::put_text(out, k, b"erase");
         }
         let stored = s.stored;
         return replay_lines::parts::put_saved(out, k, stored);
@@ -71,11 +71,11 @@ fn put_validations(out: &mut [u8], at: usize, from: usize, s: ValidationsSignal)
 fn put_running(out: &mut [u8], at: usize, c: Challenge) -> usize
     ensures { λ r. ⌜ page (now (out .exit)) r ≡ running c (page (now (out .entry)) at) ⌝ }
 {
-    let k = replay_lines::put_number(out, at, c.session as u64);
-    let k = replay_lines::put_item(out, k, b"/", c.method as u64);
-    let k = replay_lines::put_text(out, k, b"/");
+    let k = replay_page::put_number(out, at, c.session as u64);
+    let k = replay_page::put_item(out, k, b"/", c.method as u64);
+    let k = replay_page::put_text(out, k, b"/");
     let code = c.code;
-    replay_lines::fields::put_digits(out, k, &code, c.length)
+    replay_page::put_digits(out, k, &code, c.length)
 }
 
 fn put_challenge(out: &mut [u8], at: usize, from: usize, s: ChallengeSignal) -> usize
@@ -87,7 +87,7 @@ fn put_challenge(out: &mut [u8], at: usize, from: usize, s: ChallengeSignal) -> 
             let c = s.challenge;
             return put_running(out, k, c);
         }
-        return replay_lines::put_text(out, k, b"none");
+        return replay_page::put_text(out, k, b"none");
     }
     at
 }
@@ -97,7 +97,7 @@ fn put_end(out: &mut [u8], at: usize, from: usize) -> usize
     ensures { λ r. ⌜ page (now (out .exit)) r ≡ ended from (page (now (out .entry)) at) ⌝ }
 {
     if at == from {
-        return replay_lines::put_text(out, at, b"none");
+        return replay_page::put_text(out, at, b"none");
     }
     at
 }
@@ -123,6 +123,6 @@ fn put_listed(out: &mut [u8], at: usize, from: usize, s: Signals) -> usize
 pub fn put_signals(out: &mut [u8], at: usize, s: Signals) -> usize
     ensures { λ r. ⌜ page (now (out .exit)) r ≡ signals s (page (now (out .entry)) at) ⌝ }
 {
-    let from = replay_lines::put_text(out, at, b" signals=");
+    let from = replay_page::put_text(out, at, b" signals=");
     put_listed(out, from, from, s)
 }

@@ -33,10 +33,12 @@ use Rattle.state.proofs.Queue as Queue
 use Rattle.state.proofs.Save as Save
 use Rattle.state.proofs.Settings as Settings
 use Rattle.state.proofs.Validation as Validation
-use Rattle.replay_lines.specs.Room.{Within}
+use Rattle.replay_page.specs.Room.{Within}
 use Rattle.replay_lines.proofs.AnswerRoom.{Owned, method-ids}
-use Rattle.replay_lines.proofs.Room.{_⊕_, upto, either, same, text-in, known-in, comma-in, item-in, flag-in, word-in, id-in, method-in}
-use Rattle.replay_lines.proofs.StoreRoom.{saved-in, lists-in}
+use Rattle.replay_page.proofs.Room.{_⊕_, upto, either, same, text-in, known-in, comma-in, item-in, flag-in, word-in}
+use Rattle.replay_lines.proofs.Room.{id-in, method-in}
+use Rattle.replay_lines.proofs.AnswerRoom.{saved-in}
+use Rattle.replay_cars.proofs.Room.{lists-in}
 use Rattle.replay_running.proofs.Room.{session-in, probe-in}
 use Rattle.replay_state.specs.Whole.{settings, methodAt, methodsTo, identity, access, buses, policy, peer, front, save, queue, gate}
 

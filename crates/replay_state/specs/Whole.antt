@@ -19,8 +19,8 @@ use Rattle.state.specs.declared.Policy.{Policy}
 use Rattle.state.specs.declared.Queue.{Queue}
 use Rattle.state.specs.declared.Save.{Save}
 use Rattle.state.specs.declared.Settings.{Settings}
-use Rattle.replay_lines.specs.Cars.{lists}
-use Rattle.replay_lines.specs.Page.{Page, _▸_, text, bytes, known, comma, item, flag, word}
+use Rattle.replay_cars.specs.Cars.{lists}
+use Rattle.replay_page.specs.Page.{Page, _▸_, text, bytes, known, comma, item, flag, word}
 use Rattle.replay_lines.specs.Parts.{method}
 use Rattle.replay_running.specs.Probe.{probe}
 use Rattle.replay_running.specs.Session.{sessionOrNone}

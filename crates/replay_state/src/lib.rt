@@ -16,7 +16,7 @@ use state::Save;
 use state::Settings;
 ghost use mathlib.Core.Path.{_≡_};
 ghost use Prim.Native.Nat.{_<_};
-ghost use Rattle.replay_lines.specs.Page.{page};
+ghost use Rattle.replay_page.specs.Page.{page};
 ghost use Rattle.replay_state.specs.Whole.{settings, methodAt, methodsTo, identity, access, buses, policy, peer, front, save, queue, gate};
 
 fn put_settings(out: &mut [u8], at: usize, s: Settings) -> usize
@@ -41,13 +41,13 @@ fn put_method_at(out: &mut [u8], at: usize, m: Methods, i: usize) -> usize
     ensures { λ r. ⌜ page (now (out .exit)) r ≡ methodAt m i (page (now (out .entry)) at) ⌝ }
 {
     if i < m.count {
-        let k = replay_lines::put_comma(out, at, i);
+        let k = replay_page::put_comma(out, at, i);
         let one = m.list[i];
         let k = replay_lines::parts::put_method(out, k, one);
         let may = m.available[i];
-        let k = replay_lines::put_flag(out, k, b"/", may);
+        let k = replay_page::put_flag(out, k, b"/", may);
         let goes = m.continues[i];
-        return replay_lines::put_flag(out, k, b"/", goes);
+        return replay_page::put_flag(out, k, b"/", goes);
     }
     at
 }
@@ -147,7 +147,7 @@ fn put_front(out: &mut [u8], at: usize, core: Core, l: Phones) -> usize
     let k = put_policy(out, k, p);
     let paired = l.paired;
     let store = l.store;
-    let k = replay_lines::cars::put_lists(out, k, paired, store);
+    let k = replay_cars::put_lists(out, k, paired, store);
     let id = core.peer;
     put_peer(out, k, id)
 }

@@ -7,23 +7,27 @@ use lib.Dec.{lit≤}
 use lib.ListN.{length}
 use mir.Val.{Val}
 use Rattle.answers.specs.Query.{Query, plain}
-use Rattle.definition.specs.Gate.{SaveCall, Lent, onSave, ask, saving, ofSave, asked, served, says, left, packed, gives, lentGiven, step}
+use Rattle.definition.specs.Gate.{SaveCall, Lent, onSave, ask, answered, saving, ofSave, asked, served, says, left, packed, gives, lentGiven, step}
 use Rattle.range.specs.Range.{inRange}
 use Rattle.replay_answers.specs.Query.{longRoom}
 use Rattle.replay_host.specs.declared.Host.{Host}
+use Rattle.replay_lines.specs.Answer.{answer}
 use Rattle.replay_lines.specs.Lent.{mostLent}
-use Rattle.replay_lines.specs.Page.{Page}
-use Rattle.replay_lines.specs.Room.{Within}
+use Rattle.replay_page.specs.Page.{Page}
+use Rattle.replay_page.specs.Room.{Within}
 use Rattle.replay_lines.proofs.AnswerRoom.{Owned, answer-in}
-use Rattle.replay_lines.proofs.Room.{_⊕_, upto, output-in}
+use Rattle.replay_page.proofs.Room.{_⊕_, upto}
+use Rattle.replay_lines.proofs.Room.{output-in}
 use Rattle.replay_signals.specs.Signals.{signals}
 use Rattle.replay_signals.proofs.Room.{no-signals-in}
 use Rattle.save.specs.Save.{Saving}
 use Rattle.state.specs.Replies.{nothingRaised, noSignals}
 use Rattle.state.specs.View.{view}
+use Rattle.state.specs.declared.Answer.{Answer}
 use Rattle.state.specs.declared.Answer.the-variants.{BadSettings}
 use Rattle.state.specs.declared.Gate.{Gate}
 use Rattle.state.specs.declared.Outcome.{Outcome}
+use Rattle.state.proofs.Answer as Answer
 use Rattle.state.proofs.Outcome as Outcome
 use Rattle.replay_queries.specs.Shown.{shown}
 use Rattle.replay_given.specs.Turns.{laid, calm, calmRoom, turnRoom, TurnFits}
@@ -34,6 +38,14 @@ laid-ask h q p = refl
 
 pub ask-fits : (h : Host) (q : Query) → Within longRoom (shown (step (h .gate) (ask q) .answer)) → Within calmRoom (signals noSignals) → TurnFits (laid h (step (h .gate) (ask q)))
 ask-fits h q u v = record { fits = λ p r. rw (laid-ask h q p) (upto turnRoom (lit≤ tt) (u ⊕ v) .fits p r) }
+
+-- an answer alone, as it is shown
+module _ (g : Gate) (q : Query) (a : Answer) (e : answered g (plain a) ≡ step g (ask q)) where
+  pub plain-shown : (p : Page) → answer a p ≡ shown (step g (ask q) .answer) p
+  plain-shown p = rw (← e)
+
+  pub plain-in : (vs : List Val) → Owned Answer.the-field a vs → Within longRoom (shown (step g (ask q) .answer))
+  plain-in vs k = rw (← e) (upto longRoom (lit≤ tt) (answer-in a vs k))
 
 -- ---- a save
 

@@ -2,9 +2,9 @@
 use mathlib.Core.Path.{_≡_, refl, ap, sym, _∙_}
 use mathlib.Core.Bool.{Bool, true, false, cond}
 use mathlib.Core.List.{List, [], _∷_, _++_, append-assoc}
-use Prim.Native.Nat.{ℕ, zero, suc, _-_}
+use Prim.Native.Nat.{ℕ, zero, suc, _+_, _-_}
 use native.Mathlib.Omega.{arith}
-use lib.ListN.{length, take, drop, length-drop, take-append-drop}
+use lib.ListN.{length, take, drop, length-append, length-drop, take-append-drop}
 use lib.Seq.{take-at, drop-at, length-take-le}
 use Rattle.phones.specs.Ids.{someOf}
 use Rattle.phone_fields.specs.PhoneFields.{fields, Read, notWhole, whole, before}
@@ -24,6 +24,12 @@ lacking (p ∷ ps) = anyEmpty (p ∷ ps)
 
 unfoldable pub unreadable : CarIds → Bool
 unreadable c = lacking (c .phones)
+
+-- ---- how long a part is
+
+pub part-length : (c : CarIds) → length (carPart c) ≡ length (c .car) + 1 + length (fields (c .phones))
+unfolding carPart
+part-length c = length-append (c .car) (length (c .phones) ∷ fields (c .phones)) ∙ (let e : length (c .car) + suc (length (fields (c .phones))) ≡ length (c .car) + 1 + length (fields (c .phones)) = omega arith in e)
 
 -- ---- what is written is read back
 

@@ -13,9 +13,8 @@ use Rattle.phones.proofs.Search.{none-cons}
 use Rattle.phone_fields.specs.PhoneFields.{Read, notWhole, whole, anyLong, overLimits}
 use Rattle.phone_fields.proofs.Laws.{anyEmpty, fields-length, none-long-short}
 use Rattle.saved_record.specs.SavedRecord.{CarIds, carPart, carParts, encoded, readCars, readTwo, readVersion, nothingAfter, twice, over, malformed, carTwice, tooLarge, ok, Reading, judged, decoded}
-use Rattle.saved_record.proofs.Parts.{Digests, lacking, unreadable, read-parts, ReadCars, cars-read}
+use Rattle.saved_record.proofs.Parts.{Digests, lacking, unreadable, part-length, read-parts, ReadCars, cars-read}
 use Rattle.saved_record.proofs.Parts as Parts
-use Rattle.saved_record.proofs.Writing.{part-length}
 
 -- the bytes of a record whose cars these are, as version 1, for one car alone, and as version 2
 pub data Versions (r : List ℕ) (cs : List CarIds) : Type 0 where

@@ -1,5 +1,3 @@
-pub mod Laws
-pub mod Shorter
 pub mod Pieces
 pub mod CutAnywhere
 pub mod Padding

@@ -10,7 +10,8 @@ use borrow.Author.Tests.{ltb-true}
 use lib.Dec.{ltb}
 use lib.ListN.{length, take, drop, getD, replicate, take-append-drop, List·getD-append, length-append, length-drop, length-replicate}
 use lib.Seq.{getD-append-add, length-take-le}
-use Rattle.sha256.specs.Sha256.{word, M, W, next, rounds, plus, hashFrom, k, pad, padLast, bytes, bytes8, finished, sha256, blockCount, H₀}
+use Rattle.sha256_block.specs.Block.{word, M, W, next, rounds, plus}
+use Rattle.sha256.specs.Sha256.{hashFrom, k, pad, padLast, bytes, bytes8, finished, sha256, blockCount, H₀}
 
 -- ---- the blocks of a longer list
 

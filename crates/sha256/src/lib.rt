@@ -1,17 +1,13 @@
 // SHA-256 (FIPS 180-4). The definition is specs/Sha256.antt, that of a message in pieces specs/Pieces.antt.
 ghost use mathlib.Core.Path.{_≡_};
-ghost use Prim.Native.Nat.{_*_, _/_, _<_};
+ghost use Prim.Native.Nat.{_*_, _/_, _%_, _<_};
 ghost use lib.ListN.{length};
 ghost use Rattle.arrays.specs.Arrays.{padded};
 ghost use Rattle.sha256.specs.Pieces.{opened, absorbed, closed};
-ghost use Rattle.sha256.specs.Sha256.{H₀, bytes, blockCount, hashFrom, padLast, finished};
+ghost use Rattle.sha256.specs.Sha256.{H₀, bytes, bytes4, blockCount, hashFrom, padLast, finished};
 ghost use Rattle.sha256.specs.Sha256 as Sha;
 use arrays::put;
-use block::compress;
-use words::big4;
-
-mod block;
-mod words;
+use sha256_block::compress;
 
 // FIPS 180-4, 5.3.3.
 const H0: [u32; 8] = [
@@ -46,6 +42,19 @@ pub fn hash_blocks(h: [u32; 8], m: &[u8]) -> [u32; 8]
         i += 1;
     }
     s
+}
+
+fn byte(x: u32) -> u8
+    ensures { λ r. ⌜ r ≡ x % 256 ⌝ }
+{
+    (x % 256) as u8
+}
+
+// The bytes of `x`, the most significant first.
+fn big4(x: u32) -> [u8; 4]
+    ensures { λ r. ⌜ r ≡ bytes4 x ⌝ }
+{
+    [byte(x >> 24), byte(x >> 16), byte(x >> 8), byte(x)]
 }
 
 // The bytes of a hash value.

@@ -10,7 +10,8 @@ use Rattle.arrays.specs.Arrays.{sameBytes}
 use Rattle.arrays.proofs.Laws.{both}
 use Rattle.phones.specs.Ids.{someOf, allOf}
 use Rattle.sha256.specs.Sha256 as Sha256
-use Rattle.sha256.specs.Sha256.{pad, H₀, M, W, rounds, plus, hashFrom, sha256}
+use Rattle.sha256_block.specs.Block.{M, W, rounds, plus}
+use Rattle.sha256.specs.Sha256.{pad, H₀, hashFrom, sha256}
 use Rattle.car_digest.specs.declared.Digested.{Digested}
 use Rattle.car_digest.specs.CarDigest.{carDigest}
 use Rattle.saved_record.specs.SavedRecord.{CarIds, encoded, over, ok, decoded}

@@ -17,7 +17,8 @@ use Rattle.state.specs.Checks.{unmet}
 use Rattle.state.specs.View.{Lists, view, listsIn}
 use Rattle.range.specs.Range.{within, queueFits}
 use Rattle.range.proofs.Laws.{within-is}
-use Rattle.can_queue.specs.Calls.{Sending, unsent, sending, Serving, turn, turns, serving}
+use Rattle.can_queue.specs.Calls.{Sending, unsent, sending}
+use Rattle.can_turns.specs.Turns.{Serving, turn, turns, serving}
 use Rattle.definition.specs.Gate.{ofSending, ofServing, left}
 use Rattle.stays_in_range.proofs.Parts.{Fitting, Fits, is-within, Leaves, Holds, if-checked}
 use Rattle.stays_in_range.proofs.Calls.{fit-allow}

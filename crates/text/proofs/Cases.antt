@@ -4,7 +4,7 @@ use mathlib.Core.Bool.{true, false}
 use mathlib.Core.List.{List, [], _∷_, map}
 use Prim.Native.Nat.{ℕ}
 use Rattle.arrays.specs.Arrays.{sameBytes}
-use Rattle.text.specs.Utf8.{within, encode, encodeAll, decode, utf8-2, utf8-3, utf8-4, begins3, begins4}
+use Rattle.utf8.specs.Utf8.{within, encode, encodeAll, decode, utf8-2, utf8-3, utf8-4, begins3, begins4}
 use Rattle.text.specs.Text.{white, trimFront, trim, isText, trimmed, isDigit, isSeparator, beginsDigit, isDropped, ungroupedFrom, ungrouped, right}
 
 -- the code 1234

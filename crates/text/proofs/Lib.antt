@@ -1,7 +1,5 @@
-pub mod Ranges
-pub mod Grammar
-pub mod Octets
-pub mod Utf8
+pub mod White
+pub mod Encodes
 pub mod Scan
 pub mod Same
 pub mod Groups

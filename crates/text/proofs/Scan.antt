@@ -9,13 +9,14 @@ use borrow.Author.Tests.{eqb-true, eqb-false}
 use lib.Dec.{leb, eqb}
 use lib.ListN.{length, take, drop, length-append, length-take, length-drop, drop-of-length-le}
 use lib.Seq.{take-add, drop-drop}
-use Rattle.text.specs.Utf8.{encode, encodeAll, decode, before}
+use Rattle.utf8.specs.Utf8.{encode, encodeAll, decode, before}
 use Rattle.text.specs.Text.{white, trimFront, trim, isText, trimmed}
-use Rattle.text.specs.Steps.{firstChar, turnOf, part, Says}
-use Rattle.text.specs.declared.Char.the-variants.{Point, Bad}
+use Rattle.utf8.specs.First.{firstChar}
+use Rattle.text.specs.Steps.{turnOf, part, Says}
+use Rattle.utf8.specs.declared.Char.the-variants.{Point, Bad}
 use Rattle.text.specs.declared.Span.{Span}
 use Rattle.text.specs.declared.Trimmed.the-variants.{Text}
-use Rattle.text.proofs.Utf8.{decode-bad, decode-point, first-good}
+use Rattle.utf8.proofs.Utf8.{decode-bad, decode-point, first-good}
 
 -- ---- the trimmed list after one more code point
 

@@ -10,11 +10,11 @@ use lib.Dec.{eqb}
 use lib.ListN.{take}
 use Rattle.arrays.specs.Arrays.{sameBytes}
 use Rattle.arrays.proofs.Laws.{same-refl, same-bytes-is}
-use Rattle.text.specs.Utf8.{within}
+use Rattle.utf8.specs.Utf8.{within}
 use Rattle.text.specs.Text.{isText, trimmed, isDigit, isSeparator, beginsDigit, isDropped, ungroupedFrom, ungrouped, right}
 use Rattle.text.specs.Spaced.{Gap, nothing, blank, hyphen, Spaced, empty, last, next, Digits, SpacedRight}
-use Rattle.text.proofs.Ranges.{inside, within-true}
-use Rattle.text.proofs.Octets.{and-true, or-true}
+use Rattle.utf8.proofs.Ranges.{inside, within-true}
+use Rattle.utf8.proofs.Octets.{and-true, or-true}
 
 -- ---- digits and separators
 

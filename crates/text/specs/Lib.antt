@@ -1,4 +1,3 @@
-pub mod Utf8
 pub mod Text
 pub mod Spaced
 pub mod Steps

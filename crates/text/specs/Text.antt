@@ -7,7 +7,7 @@ use Prim.Native.Nat.{ℕ}
 use lib.Dec.{eqb}
 use lib.ListN.{take}
 use Rattle.arrays.specs.Arrays.{sameBytes}
-use Rattle.text.specs.Utf8.{within, decode, encodeAll}
+use Rattle.utf8.specs.Utf8.{within, decode, encodeAll}
 
 -- White_Space: the 25 code points
 unfoldable pub white : ℕ → Bool

@@ -20,7 +20,9 @@ use Rattle.state.specs.View.{View, Listing, view, laidPhones}
 use Rattle.range.specs.Range.{inRange}
 use Rattle.save.specs.Save.{Saving}
 use Rattle.can_queue.specs.Calls as CanQueue
-use Rattle.can_queue.specs.Calls.{Sending, Serving, serving, reportOf}
+use Rattle.can_turns.specs.Turns as CanTurns
+use Rattle.can_queue.specs.Calls.{Sending}
+use Rattle.can_turns.specs.Turns.{Serving, serving, reportOf}
 use Rattle.validation.specs.Calls.{submit}
 use Rattle.answers.specs.Query.{plain, report, ReplyByIds}
 use Rattle.definition.specs.Gate.{sendCanFrame, serveCanFrames, Call, Says, saying, asked, served, saving, queueing, ofSession, ofLists, ofSave, ofSending, ofServing, says, fullFor, Lent, bytes, records, lentTo, lentAs, lentAfter, left, gives, packed, step, after}

@@ -25,7 +25,7 @@ use Rattle.state.specs.Running.{isRunning, inProgress, codeInProgress, methodAt
 use Rattle.state.specs.Replies.{nothingRaised, phoneAccessChanged, leave, reply, notified, finish}
 use Rattle.state.specs.View.{Lists, View}
 use Rattle.waiting_list.specs.declared.Waiting.{Waiting}
-use Rattle.can_queue.specs.Calls.{serving}
+use Rattle.can_turns.specs.Turns.{serving}
 use Rattle.range.proofs.Laws.{within-is}
 use Rattle.range.specs.Range.{coreFits, triesFit, inRange}
 use Rattle.session.specs.declared.Lapse.{Lapse}

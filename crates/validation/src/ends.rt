@@ -1,4 +1,5 @@
 // How a running session ends.
+use session::Lapse;
 use state::Answer;
 use state::Core;
 use state::Ended;
@@ -37,6 +38,17 @@ pub fn end_session(core: Core, answer: Answer, status: Status, clock: u64) -> Sa
     let e = session::ended_as(s, status, clock);
     let c = session_is(core, e);
     finished(c, answer)
+}
+
+// It ends by itself: its time is over, its car or its method is gone.
+pub fn tick_validation(core: Core, clock: u64) -> Said
+    ensures { λ r. ⌜ r ≡ Calls.tick core clock ⌝ }
+{
+    let lapse = session::lapse_of(core, clock);
+    match lapse {
+        Lapse::Stays => state::replies::leave(core, Answer::Done),
+        Lapse::Ends(status) => end_session(core, Answer::Done, status, clock),
+    }
 }
 
 // The session runs and is this phone's.

@@ -1,3 +1,2 @@
-// The definitions of a phone validation session's calls, and those calls that neither draw nor judge a code (validation.rs).
-pub mod calls;
+// The definitions of a phone validation session's calls, and how a session ends (validation.rs).
 pub mod ends;

@@ -1,7 +1,8 @@
 -- The definition at the worked examples of FIPS 180-4: antt computes each.
 use mathlib.Core.List.{[], _∷_}
 use mathlib.Core.Path.{_≡_, refl}
-use Rattle.sha256.specs.Sha256.{sha256, padLast, hashFrom, W, K, rounds}
+use Rattle.sha256_block.specs.Block.{W, K, rounds}
+use Rattle.sha256.specs.Sha256.{sha256, padLast, hashFrom}
 
 -- ""
 pub empty : sha256 ([]) ≡ (

@@ -1,6 +1,7 @@
 -- `listing::refused` meets its contract. Assumes nothing.
-use Rattle.listing.specs.Listing.{line, refusedLines}
-use Rattle.listing.proofs.Laws.{wrote-listed}
+use Rattle.car_lines.specs.Lines.{line}
+use Rattle.listing.specs.Listing.{refusedLines}
+use Rattle.listing.proofs.Cars.{wrote-listed}
 use borrow.Author.Needs.{needs}
 use Rattle.listing.proofs.refused.Statement.{statement}
 use Rattle.listing.proofs.refused.Tie as tie

@@ -1,7 +1,7 @@
 use mathlib.Core.Path.{refl, sym}
 use native.Mathlib.Omega.{arith}
 use lib.Seq.{length-take-le}
-use Rattle.frame_log.proofs.Pages.{laid-inside}
+use Rattle.frame_lines.proofs.Pages.{laid-inside}
 use borrow.Author.Needs.{needs}
 use Rattle.match_logs.proofs.print_answer.Statement.{statement}
 use Rattle.match_logs.proofs.print_answer.Tie as tie

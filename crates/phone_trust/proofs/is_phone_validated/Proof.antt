@@ -11,6 +11,5 @@ is-phone-validated-spec =
     (λ c. rw (eq-eqb _ _ (c .if1 .taken)))
     (λ c κs. tt)
     (λ c κs. tt)
-    (λ c κs. tt)
-    (λ c. rw (ne-eqb _ _ (c .before .before .before .before .before .if1 .left), ← c .before .before .before .before .is-paired .ensures, c .before .before .before .if2 .taken, ← c .before .validated-now .ensures, ← c .contains .ensures))
+    (λ c. rw (ne-eqb _ _ (c .before .before .before .before .if1 .left), ← c .before .before .before .is-paired .ensures, c .before .before .if2 .taken, ← c .validated-now .ensures))
     (λ c. rw (ne-eqb _ _ (c .before .before .if1 .left), ← c .before .is-paired .ensures, c .if2 .left)))

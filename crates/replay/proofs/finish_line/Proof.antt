@@ -1,6 +1,6 @@
 -- The host is the same whatever was laid down; the next number wraps. Assumes nothing.
 use denote.Ref.{now}
-use Rattle.replay_lines.specs.Page.{page}
+use Rattle.replay_page.specs.Page.{page}
 use Rattle.replay.specs.Script.{lineIn}
 use Rattle.replay.proofs.Laws.{after-line}
 use borrow.Author.Needs.{needs}

@@ -52,4 +52,4 @@ can-call-spec =
     (λ c. rw (c .before .match .keys15) (c .note-can-fd-bus .ensures))
     (λ c. rw (c .before .match .keys16) (c .note-method-available .ensures))
     (λ c. rw (c .before .match .keys17) (c .note-method-can-continue .ensures))
-    (λ c. let a = c .before .before .before .before .before .before .before .before .before .before .before .before .args in rw (else-first (canCalls (a .i) (lentBytes (a .p) (now (a .room)))) (onCore approveCanReadWrite) (a .name) refl (c .before .match .rest)) (c .approve-can-read-write .ensures)))
+    (λ c. let a = c .before .before .before .before .before .before .before .before .before .args in rw (else-first (canCalls (a .i) (lentBytes (a .p) (now (a .room)))) (onCore approveCanReadWrite) (a .name) refl (c .before .match .rest)) (c .approve-can-read-write .ensures)))

@@ -44,4 +44,4 @@ phone-call-spec =
     (λ c. rw (c .before .match .keys11, ← c .before .before .lent5 .ensures) (c .restore-phone-validations .ensures))
     (λ c. rw (c .before .match .keys12) (c .open-phone-validations-save .ensures))
     (λ c. rw (c .before .match .keys13, ← c .before .before .before .before .before .before .lent .ensures) (c .set-ble-peer .ensures))
-    (λ c. let a = c .before .before .before .before .before .before .before .before .before .before .before .args in rw (else-first (phoneCalls (a .i) (lentBytes (a .p) (now (a .room)))) (newCall (a .i)) (a .name) refl (c .before .match .rest)) (c .new-gate .ensures (a .g))))
+    (λ c. let a = c .before .before .before .before .before .before .before .before .before .args in rw (else-first (phoneCalls (a .i) (lentBytes (a .p) (now (a .room)))) (newCall (a .i)) (a .name) refl (c .before .match .rest)) (c .new-gate .ensures (a .g))))

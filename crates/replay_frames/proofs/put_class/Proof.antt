@@ -1,4 +1,4 @@
-use Rattle.replay_lines.specs.Page.{text}
+use Rattle.replay_page.specs.Page.{text}
 use borrow.Author.Needs.{needs}
 use Rattle.replay_frames.proofs.put_class.Statement.{statement}
 use Rattle.replay_frames.proofs.put_class.Tie as tie

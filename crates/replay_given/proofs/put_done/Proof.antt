@@ -1,7 +1,7 @@
 use borrow.Author.Needs.{needs}
 use lib.Dec.{lit≤}
 use Rattle.replay_frames.proofs.Room.{done-in}
-use Rattle.replay_lines.proofs.Room.{_⊕_, upto}
+use Rattle.replay_page.proofs.Room.{_⊕_, upto}
 use Rattle.replay_given.specs.Turns.{turnRoom}
 use Rattle.replay_given.proofs.put_done.Statement.{statement}
 use Rattle.replay_given.proofs.put_done.Tie as tie

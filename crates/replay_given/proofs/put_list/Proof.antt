@@ -1,12 +1,13 @@
 use borrow.Author.Needs.{needs}
 use lib.Dec.{lit≤}
 use Rattle.replay_frames.proofs.Room.{lent-list-in}
-use Rattle.replay_lines.proofs.Room.{_⊕_, upto}
-use Rattle.replay_given.specs.Turns.{turnRoom}
+use Rattle.replay_page.proofs.Room.{_⊕_, upto}
+use Rattle.replay_given.specs.Turns.{ran, turnRoom}
 use Rattle.replay_given.proofs.put_list.Statement.{statement}
 use Rattle.replay_given.proofs.put_list.Tie as tie
 
 pub put-list-spec : {M : Type 1} → statement M
+unfolding ran
 put-list-spec =
     tie.close
     (tie.spec
@@ -15,6 +16,5 @@ put-list-spec =
     (λ c. search needs)
     (λ c.
     let k = c .before .before .put-calm .ensures in
-    let s = c .before .before .before .before .before .before .before .before .before .before in
-    let list = s .good .0 .1 .1 .1 in
-    (rw (← c .before .before .before .before .before .before .put-lent-list .ensures) (k .0), upto turnRoom (lit≤ tt) (lent-list-in (s .args .h .list) (s .args .h .lent) (list .1 .0 .1) _ (list .0 .1 .1) ⊕ k .1))))
+    let list = c .before .before .before .before .before .before .before .before .before .before .good .0 .1 .1 .1 in
+    (rw (← c .before .before .before .before .before .before .put-lent-list .ensures) (k .0), upto turnRoom (lit≤ tt) (lent-list-in (c .before .before .before .before .before .before .before .before .before .before .args .h .list) (c .before .before .before .before .before .before .before .before .before .before .args .h .lent) (list .1 .0 .1) _ (list .0 .1 .1) ⊕ k .1))))

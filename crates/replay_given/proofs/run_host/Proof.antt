@@ -5,15 +5,15 @@ use native.Mathlib.Omega.{arith}
 use lib.ListN.{List·getD-eq-default}
 use Rattle.replay_calls.specs.Calls.{unknown, hostLines, hostLine}
 use Rattle.replay_items.specs.Bytes.{lentBytes}
-use Rattle.replay_lines.proofs.Room.{same}
-use Rattle.replay_given.specs.Turns.{turnRoom}
+use Rattle.replay_page.proofs.Room.{same}
+use Rattle.replay_given.specs.Turns.{ran, turnRoom}
 use Rattle.replay_given.proofs.run_host.Statement.{statement}
 use Rattle.replay_given.proofs.run_host.Tie as tie
 
 returns-6 : tie.Need-returns-6
-unfolding hostLine hostLines
+unfolding ran hostLine hostLines
 returns-6 c =
-    let a = c .before .before .before .before .before .before .before .before .args in
+    let a = c .before .before .before .before .before .before .args in
     let four = c .before .match .rest .1 in
     let three = c .before .match .rest .0 .1 in
     let two = c .before .match .rest .0 .0 .1 in
@@ -23,7 +23,7 @@ returns-6 c =
     rw (List·getD-eq-default (hostLines (a .i) (lentBytes (a .p) (now (a .room)))) unknown h) (rw (c .not-called .ensures), same turnRoom)
 
 pub run-host-spec : {M : Type 1} → statement M
-unfolding lentBytes hostLine hostLines
+unfolding ran lentBytes hostLine hostLines
 run-host-spec =
     tie.close
     (tie.spec

@@ -17,61 +17,8 @@ Inv-loop row keys right many count left₀ at₀ left at =
 abbrev μ-loop : tie.MeasureT-loop
 μ-loop row keys right many count left₀ at₀ left at = length row - at
 
-loop-holds : tie.Need-loop-holds Inv-loop μ-loop
-unfolding restOf
-loop-holds c =
-    let a = c .before .before .before .args in
-    let e : before 32 (a .row .now) ≡ c .end-of .result = omega (arith, c .end-of .ensures) in
-    rw e
-
-returns : tie.Need-returns Inv-loop μ-loop
-returns c =
-    let r = c .before .before .before in
-    let a = r .before .before .before .before .before .before .before .before .before .args in
-    let l = r .before .before .before .before .before .loop in
-    let e = r .before .before .before .end-of2 in
-    let k = r .before .place-in .ensures in
-    sym (l .inv ∙ too-many (linesOf 10 (a .keys .now)) (a .right) (a .many) (a .row .now) (l .left) (l .at) (e .result) (omega arith) (e .ensures) (rw (← k, ← r .is-right .ensures) (c .before .before .if1 .taken)) (rw (← k, ← c .before .how-many .ensures) (c .if2 .taken)))
-
-add-at-2 : tie.Need-add-at-2 Inv-loop μ-loop
-add-at-2 c =
-    let r = c .before .before .before in
-    let a = r .before .before .before .before .before .before .before .before .before .args in
-    let l = r .before .before .before .before .before .loop in
-    let e = r .before .before .before .end-of2 in
-    omega (arith, end-inside 32 (a .row .now) (l .at) (e .result) (omega arith) (e .ensures))
-
-loop-less : tie.Need-loop-less Inv-loop μ-loop
-loop-less c =
-    let r = c .before .before .before in
-    let a = r .before .before .before .before .before .before .before .before .before .args in
-    let l = r .before .before .before .before .before .loop in
-    let e = r .before .before .before .end-of2 in
-    omega (arith, end-inside 32 (a .row .now) (l .at) (e .result) (omega arith) (e .ensures))
-
-loop-again : tie.Need-loop-again Inv-loop μ-loop
-loop-again c =
-    let r = c .before .before .before in
-    let a = r .before .before .before .before .before .before .before .before .before .args in
-    let l = r .before .before .before .before .before .loop in
-    let e = r .before .before .before .end-of2 in
-    let k = r .before .place-in .ensures in
-    l .inv ∙ rw (c .before .how-many .ensures, k) (one-less (linesOf 10 (a .keys .now)) (a .right) (a .many) (a .row .now) (l .left) (l .at) (e .result) (omega arith) (e .ensures) (rw (← k, ← r .is-right .ensures) (c .before .before .if1 .taken)) (rw (← k, ← c .before .how-many .ensures) (omega (arith, c .if2 .left))))
-
-returns-2 : tie.Need-returns-2 Inv-loop μ-loop
-returns-2 c =
-    let a = c .before .before .before .before .before .before .before .before .before .before .args in
-    let l = c .before .before .before .before .before .before .loop in
-    let e = c .before .before .before .before .end-of2 in
-    sym (l .inv ∙ not-right (linesOf 10 (a .keys .now)) (a .right) (a .many) (a .row .now) (l .left) (l .at) (e .result) (omega arith) (e .ensures) (rw (← c .before .before .place-in .ensures, ← c .before .is-right .ensures) (c .if1 .left)))
-
-returns-3 : tie.Need-returns-3 Inv-loop μ-loop
-returns-3 c =
-    let a = c .before .before .before .before .before .args in
-    let l = c .before .loop in
-    sym (l .inv ∙ none-left (linesOf 10 (a .keys .now)) (a .right) (a .many) (a .row .now) (l .left) (l .at) (omega arith))
-
 pub has-all-spec : {M : Type 1} → statement M
+unfolding restOf
 has-all-spec =
     tie.close
     (tie.spec
@@ -79,7 +26,10 @@ has-all-spec =
     μ-loop
     (λ c κs. omega arith)
     (λ c. omega (arith, end-inside 32 (c .before .before .before .args .row .now) 0 (c .end-of .result) (omega arith) (c .end-of .ensures)))
-    loop-holds
+    (λ c.
+    let a = c .before .before .before .args in
+    let e : before 32 (a .row .now) ≡ c .end-of .result = omega (arith, c .end-of .ensures) in
+    rw e)
     (λ c κs. omega arith)
     (λ c. omega (arith, c .end-of2 .ensures))
     (λ c. omega (arith, end-inside 32 (c .before .before .before .before .before .before .args .row .now) (c .before .before .loop .at) (c .end-of2 .result) (omega arith) (c .end-of2 .ensures)))
@@ -87,9 +37,38 @@ has-all-spec =
     (λ c κs. tt)
     (λ c κs. tt)
     (λ c κs. tt)
-    returns
-    add-at-2
-    loop-less
-    loop-again
-    returns-2
-    returns-3)
+    (λ c.
+    let r = c .before .before .before in
+    let a = r .before .before .before .before .before .before .before .before .before .args in
+    let l = r .before .before .before .before .before .loop in
+    let e = r .before .before .before .end-of2 in
+    let k = r .before .place-in .ensures in
+    sym (l .inv ∙ too-many (linesOf 10 (a .keys .now)) (a .right) (a .many) (a .row .now) (l .left) (l .at) (e .result) (omega arith) (e .ensures) (rw (← k, ← r .is-right .ensures) (c .before .before .if1 .taken)) (rw (← k, ← c .before .how-many .ensures) (c .if2 .taken))))
+    (λ c.
+    let r = c .before .before .before in
+    let a = r .before .before .before .before .before .before .before .before .before .args in
+    let l = r .before .before .before .before .before .loop in
+    let e = r .before .before .before .end-of2 in
+    omega (arith, end-inside 32 (a .row .now) (l .at) (e .result) (omega arith) (e .ensures)))
+    (λ c.
+    let r = c .before .before .before in
+    let a = r .before .before .before .before .before .before .before .before .before .args in
+    let l = r .before .before .before .before .before .loop in
+    let e = r .before .before .before .end-of2 in
+    omega (arith, end-inside 32 (a .row .now) (l .at) (e .result) (omega arith) (e .ensures)))
+    (λ c.
+    let r = c .before .before .before in
+    let a = r .before .before .before .before .before .before .before .before .before .args in
+    let l = r .before .before .before .before .before .loop in
+    let e = r .before .before .before .end-of2 in
+    let k = r .before .place-in .ensures in
+    l .inv ∙ rw (c .before .how-many .ensures, k) (one-less (linesOf 10 (a .keys .now)) (a .right) (a .many) (a .row .now) (l .left) (l .at) (e .result) (omega arith) (e .ensures) (rw (← k, ← r .is-right .ensures) (c .before .before .if1 .taken)) (rw (← k, ← c .before .how-many .ensures) (omega (arith, c .if2 .left)))))
+    (λ c.
+    let a = c .before .before .before .before .before .before .before .before .before .before .args in
+    let l = c .before .before .before .before .before .before .loop in
+    let e = c .before .before .before .before .end-of2 in
+    sym (l .inv ∙ not-right (linesOf 10 (a .keys .now)) (a .right) (a .many) (a .row .now) (l .left) (l .at) (e .result) (omega arith) (e .ensures) (rw (← c .before .before .place-in .ensures, ← c .before .is-right .ensures) (c .if1 .left))))
+    (λ c.
+    let a = c .before .before .before .before .before .args in
+    let l = c .before .loop in
+    sym (l .inv ∙ none-left (linesOf 10 (a .keys .now)) (a .right) (a .many) (a .row .now) (l .left) (l .at) (omega arith))))

@@ -5,14 +5,11 @@ use Rattle.replay_names.specs.Names.{table, rows}
 use Rattle.replay_names.proofs.name_of.Statement.{statement}
 use Rattle.replay_names.proofs.name_of.Tie as tie
 
-returns : tie.Need-returns
-unfolding linesOf table rows
-returns c = c .place-in .ensures
-
 pub name-of-spec : {M : Type 1} → statement M
+unfolding linesOf rows table
 name-of-spec =
     tie.close
     (tie.spec
     (λ c. search needs)
     (λ c κs. tt)
-    returns)
+    (λ c. c .place-in .ensures))

@@ -7,12 +7,9 @@ use Rattle.replay_names.specs.Names.{exactly, wanted}
 use Rattle.replay_names.proofs.row_takes.Statement.{statement}
 use Rattle.replay_names.proofs.row_takes.Tie as tie
 
-returns : tie.Need-returns
+pub row-takes-spec : {M : Type 1} → statement M
 unfolding wanted
-returns c =
+row-takes-spec = tie.close (tie.spec (λ c κs. tt) (λ c. search needs) (λ c. search needs) (λ c. search needs) (λ c κs. tt) (λ c.
     let a = c .before .before .before .before .before .args in
     c .has-all .ensures
-    ∙ ap (λ (row : List ℕ). exactly (linesOf 10 (a .keys .now)) (a .right) (a .many) (a .count) (linesOf 32 (restOf row))) (c .before .before .row-at .ensures .row)
-
-pub row-takes-spec : {M : Type 1} → statement M
-row-takes-spec = tie.close (tie.spec (λ c κs. tt) (λ c. search needs) (λ c. search needs) (λ c. search needs) (λ c κs. tt) returns)
+    ∙ ap (λ (row : List ℕ). exactly (linesOf 10 (a .keys .now)) (a .right) (a .many) (a .count) (linesOf 32 (restOf row))) (c .before .before .row-at .ensures .row)))

@@ -11,4 +11,4 @@ first-host-spec =
     (λ c κs. tt)
     (λ c κs. tt)
     (λ c κs. tt)
-    (λ c. λ g. c .first-host .ensures ∙ ap firstHost (ap (λ (d : Given). d .gate) (c .before .before .new-gate .ensures g) ∙ rw (c .before .before .before .no-method .ensures))))
+    (λ c. λ g. c .first-host .ensures ∙ ap firstHost (ap (λ (d : Given). d .gate) (c .before .new-gate .ensures g) ∙ rw (c .before .before .no-method .ensures))))

@@ -1,4 +1,4 @@
-use Rattle.replay_player.specs.Played.{ended}
+use Rattle.replay_played.specs.Played.{ended}
 use borrow.Author.Needs.{needs}
 use Rattle.replay_player.proofs.play_call.Statement.{statement}
 use Rattle.replay_player.proofs.play_call.Tie as tie

@@ -1,4 +1,4 @@
-use Rattle.replay_player.specs.Played.{failed, ended}
+use Rattle.replay_played.specs.Played.{failed, ended}
 use borrow.Author.Needs.{needs}
 use Rattle.replay_player.proofs.play_error.Statement.{statement}
 use Rattle.replay_player.proofs.play_error.Tie as tie

@@ -1,4 +1,4 @@
-use Rattle.replay_player.specs.Played.{stateLine}
+use Rattle.replay_played.specs.Played.{stateLine}
 use borrow.Author.Needs.{needs}
 use Rattle.replay_player.proofs.put_state.Statement.{statement}
 use Rattle.replay_player.proofs.put_state.Tie as tie

@@ -16,26 +16,6 @@ Inv-loop s from b i₀ i = (from ≤ i) × (from + before b (drop from s) ≡ i 
 abbrev μ-loop : tie.MeasureT-loop
 μ-loop s from b i₀ i = length s - i
 
-returns : tie.Need-returns Inv-loop μ-loop
-returns c =
-    let a = c .before .before .before .before .args in
-    let l = c .before .before .before .loop in
-    let t : before (a .b) (drop (l .i) (a .s .now)) ≡ 0 = before-turn (a .b) (a .s .now) (l .i) (omega arith) ∙ rw (eq-eqb _ _ (c .if1 .taken)) in
-    omega (arith, l .inv .1)
-
-loop-again : tie.Need-loop-again Inv-loop μ-loop
-loop-again c =
-    let a = c .before .before .before .before .args in
-    let l = c .before .before .before .loop in
-    let t : before (a .b) (drop (l .i) (a .s .now)) ≡ suc (before (a .b) (drop (l .i + 1) (a .s .now))) = before-turn (a .b) (a .s .now) (l .i) (omega arith) ∙ rw (ne-eqb _ _ (c .if1 .left)) in
-    (omega arith, omega (arith, l .inv .1))
-
-returns-2 : tie.Need-returns-2 Inv-loop μ-loop
-returns-2 c =
-    let a = c .before .before .args in
-    let l = c .before .loop in
-    omega (arith, l .inv .1, before-end (a .b) (a .s .now) (l .i) (omega arith))
-
 pub find-spec : {M : Type 1} → statement M
 find-spec =
     tie.close
@@ -44,8 +24,16 @@ find-spec =
     μ-loop
     (λ c. (omega arith, refl))
     (λ c. omega arith)
-    returns
+    (λ c.
+    let a = c .before .before .before .before .args in
+    let l = c .before .before .before .loop in
+    let t : before (a .b) (drop (l .i) (a .s .now)) ≡ 0 = before-turn (a .b) (a .s .now) (l .i) (omega arith) ∙ rw (eq-eqb _ _ (c .if1 .taken)) in
+    omega (arith, l .inv .1))
     (λ c. omega arith)
     (λ c. omega arith)
-    loop-again
-    returns-2)
+    (λ c.
+    let a = c .before .before .before .before .args in
+    let l = c .before .before .before .loop in
+    let t : before (a .b) (drop (l .i) (a .s .now)) ≡ suc (before (a .b) (drop (l .i + 1) (a .s .now))) = before-turn (a .b) (a .s .now) (l .i) (omega arith) ∙ rw (ne-eqb _ _ (c .if1 .left)) in
+    (omega arith, omega (arith, l .inv .1)))
+    (λ c. let a = c .before .before .args in let l = c .before .loop in omega (arith, l .inv .1, before-end (a .b) (a .s .now) (l .i) (omega arith))))

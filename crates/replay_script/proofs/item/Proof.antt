@@ -10,9 +10,15 @@ use Rattle.replay_script.specs.Places.{valuesOf, shown, only, itemOf}
 use Rattle.replay_script.proofs.item.Statement.{statement}
 use Rattle.replay_script.proofs.item.Tie as tie
 
-returns : tie.Need-returns
+pub item-spec : {M : Type 1} → statement M
 unfolding itemOf shown
-returns c =
+item-spec =
+    tie.close
+    (tie.spec
+    (λ c κs. tt)
+    (λ c κs. tt)
+    (λ c κs. tt)
+    (λ c.
     let line = c .before .before .before .before .before .before .before .args .line .now in
     let key = c .before .before .before .before .before .before .before .args .key .now in
     let f = c .before .before .before .next in
@@ -23,11 +29,8 @@ returns c =
     let one : valuesOf key (itemsOf line) ≡ p ∷ more = f .ensures .values ∙ rw (c .before .before .if1 .taken) in
     let two : more ≡ part (g .result .start) (g .result .end) line ∷ most = g .ensures .values ∙ rw (c .if2 .taken) in
     rw (c .before .before .before .before .no-span .ensures)
-    (record { value = ap only (one ∙ ap (λ (vs : List (List ℕ)). p ∷ vs) two); ordered = omega arith; inside = omega arith })
-
-returns-2 : tie.Need-returns-2
-unfolding itemOf shown
-returns-2 c =
+    (record { value = ap only (one ∙ ap (λ (vs : List (List ℕ)). p ∷ vs) two); ordered = omega arith; inside = omega arith }))
+    (λ c.
     let line = c .before .before .before .before .before .before .before .args .line .now in
     let key = c .before .before .before .before .before .before .before .args .key .now in
     let f = c .before .before .before .next in
@@ -37,23 +40,9 @@ returns-2 c =
     let one : valuesOf key (itemsOf line) ≡ p ∷ more = f .ensures .values ∙ rw (c .before .before .if1 .taken) in
     let two : more ≡ [] = g .ensures .values ∙ rw (c .if2 .left) in
     let both : only (valuesOf key (itemsOf line)) ≡ p ∷ [] = ap only (one ∙ ap (λ (vs : List (List ℕ)). p ∷ vs) two) in
-    record { value = rw (c .before .before .if1 .taken) both; ordered = f .ensures .ordered; inside = f .ensures .inside }
-
-returns-3 : tie.Need-returns-3
-unfolding itemOf shown
-returns-3 c =
+    record { value = rw (c .before .before .if1 .taken) both; ordered = f .ensures .ordered; inside = f .ensures .inside })
+    (λ c.
     let line = c .before .before .before .before .before .args .line .now in
     let key = c .before .before .before .before .before .args .key .now in
     let none : valuesOf key (itemsOf line) ≡ [] = c .before .next .ensures .values ∙ rw (c .if1 .left) in
-    rw (c .before .before .no-span .ensures) (record { value = ap only none; ordered = omega arith; inside = omega arith })
-
-pub item-spec : {M : Type 1} → statement M
-item-spec =
-    tie.close
-    (tie.spec
-    (λ c κs. tt)
-    (λ c κs. tt)
-    (λ c κs. tt)
-    returns
-    returns-2
-    returns-3)
+    rw (c .before .before .no-span .ensures) (record { value = ap only none; ordered = omega arith; inside = omega arith })))

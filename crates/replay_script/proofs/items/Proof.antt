@@ -15,26 +15,6 @@ Inv-loop line n₀ at₀ n at = (n ≤ at) × (n + length (itemsOf (drop at line
 abbrev μ-loop : tie.MeasureT-loop
 μ-loop line n₀ at₀ n at = length line - at
 
-loop-holds : tie.Need-loop-holds Inv-loop μ-loop
-loop-holds c =
-    let line = c .before .before .args .line .now in
-    let q = c .find .ensures in
-    (omega arith, omega (arith, ap length (items-from line 0 (c .find .result) q)), found 32 line 0 (c .find .result) q)
-
-loop-again : tie.Need-loop-again Inv-loop μ-loop
-loop-again c =
-    let line = c .before .before .before .before .before .args .line .now in
-    let l = c .before .before .loop in
-    let q = c .find2 .ensures in
-    let e = c .find2 .result in
-    (omega arith, omega (arith, l .inv .1, ap length (items-turn line (l .at) e (omega arith) (l .inv .2 (omega arith)) q)), found 32 line (l .at + 1) e q)
-
-returns : tie.Need-returns Inv-loop μ-loop
-returns c =
-    let line = c .before .before .before .before .args .line .now in
-    let l = c .before .loop in
-    omega (arith, l .inv .1, ap length (items-end line (l .at) (omega arith)))
-
 pub items-spec : {M : Type 1} → statement M
 items-spec =
     tie.close
@@ -42,10 +22,21 @@ items-spec =
     Inv-loop
     μ-loop
     (λ c κs. tt)
-    loop-holds
+    (λ c.
+    let line = c .before .before .args .line .now in
+    let q = c .find .ensures in
+    (omega arith, omega (arith, ap length (items-from line 0 (c .find .result) q)), found 32 line 0 (c .find .result) q))
     (λ c. omega arith)
     (λ c. omega arith)
     (λ c κs. tt)
     (λ c. omega (arith, c .find2 .ensures))
-    loop-again
-    returns)
+    (λ c.
+    let line = c .before .before .before .before .before .args .line .now in
+    let l = c .before .before .loop in
+    let q = c .find2 .ensures in
+    let e = c .find2 .result in
+    (omega arith, omega (arith, l .inv .1, ap length (items-turn line (l .at) e (omega arith) (l .inv .2 (omega arith)) q)), found 32 line (l .at + 1) e q))
+    (λ c.
+    let line = c .before .before .before .before .args .line .now in
+    let l = c .before .loop in
+    omega (arith, l .inv .1, ap length (items-end line (l .at) (omega arith)))))

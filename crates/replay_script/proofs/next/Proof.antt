@@ -16,47 +16,44 @@ Inv-loop line from key at₀ at = (from ≤ at) × (valuesOf key (itemsOf (drop 
 abbrev μ-loop : tie.MeasureT-loop
 μ-loop line from key at₀ at = length line - at
 
-loop-holds : tie.Need-loop-holds Inv-loop μ-loop
-loop-holds c =
+pub next-spec : {M : Type 1} → statement M
+unfolding shown
+next-spec =
+    tie.close
+    (tie.spec
+    Inv-loop
+    μ-loop
+    (λ c κs. tt)
+    (λ c.
     let a = c .before .before .before .args in
     let line = a .line .now in
     let q = c .find .ensures in
-    (omega arith, ap (valuesOf (a .key .now)) (items-from line (a .from) (c .find .result) q), found 32 line (a .from) (c .find .result) q)
-
-sub-has-key : tie.Need-sub-has-key Inv-loop μ-loop
-sub-has-key c =
+    (omega arith, ap (valuesOf (a .key .now)) (items-from line (a .from) (c .find .result) q), found 32 line (a .from) (c .find .result) q))
+    (λ c. omega arith)
+    (λ c κs. tt)
+    (λ c.
     let a = c .before .before .before .before .before .before .args in
-    omega (arith, word-inside (a .key .now) (a .line .now) (c .before .before .loop .at) (c .find2 .result) (omega arith) (c .find2 .ensures))
-
-part-has-key-start : tie.Need-part-has-key-start Inv-loop μ-loop
-part-has-key-start c =
+    omega (arith, word-inside (a .key .now) (a .line .now) (c .before .before .loop .at) (c .find2 .result) (omega arith) (c .find2 .ensures)))
+    (λ c.
     let a = c .before .before .before .before .before .before .args in
-    omega (arith, word-inside (a .key .now) (a .line .now) (c .before .before .loop .at) (c .find2 .result) (omega arith) (c .find2 .ensures))
-
-part-has-key-end : tie.Need-part-has-key-end Inv-loop μ-loop
-part-has-key-end c =
+    omega (arith, word-inside (a .key .now) (a .line .now) (c .before .before .loop .at) (c .find2 .result) (omega arith) (c .find2 .ensures)))
+    (λ c.
     let a = c .before .before .before .before .before .before .args in
-    omega (arith, word-inside (a .key .now) (a .line .now) (c .before .before .loop .at) (c .find2 .result) (omega arith) (c .find2 .ensures))
-
-add-t14 : tie.Need-add-t14 Inv-loop μ-loop
-add-t14 c =
+    omega (arith, word-inside (a .key .now) (a .line .now) (c .before .before .loop .at) (c .find2 .result) (omega arith) (c .find2 .ensures)))
+    (λ c κs. tt)
+    (λ c.
     let a = c .before .before .before .before .before .before .before .before .before .args in
     let f = c .before .before .before .find2 in
     let at = c .before .before .before .before .before .loop .at in
     let inside = word-inside (a .key .now) (a .line .now) at (f .result) (omega arith) (f .ensures) in
-    omega (arith, key-inside (a .key .now) (a .line .now) at (f .result) (omega arith) (f .ensures) (sym (c .before .has-key .ensures) ∙ c .if1 .taken))
-
-add-t15 : tie.Need-add-t15 Inv-loop μ-loop
-add-t15 c =
+    omega (arith, key-inside (a .key .now) (a .line .now) at (f .result) (omega arith) (f .ensures) (sym (c .before .has-key .ensures) ∙ c .if1 .taken)))
+    (λ c.
     let a = c .before .before .before .before .before .before .before .before .before .args in
     let f = c .before .before .before .find2 in
     let at = c .before .before .before .before .before .loop .at in
     let inside = word-inside (a .key .now) (a .line .now) at (f .result) (omega arith) (f .ensures) in
-    omega (arith, key-inside (a .key .now) (a .line .now) at (f .result) (omega arith) (f .ensures) (sym (c .before .has-key .ensures) ∙ c .if1 .taken))
-
-returns : tie.Need-returns Inv-loop μ-loop
-unfolding shown
-returns c =
+    omega (arith, key-inside (a .key .now) (a .line .now) at (f .result) (omega arith) (f .ensures) (sym (c .before .has-key .ensures) ∙ c .if1 .taken)))
+    (λ c.
     let line = c .before .before .before .before .before .before .before .before .before .args .line .now in
     let key = c .before .before .before .before .before .before .before .before .before .args .key .now in
     let l = c .before .before .before .before .before .loop in
@@ -68,10 +65,9 @@ returns c =
       ordered = omega arith;
       inside = word-inside key line (l .at) (f .result) (omega arith) (f .ensures);
       onward = λ ok. omega arith;
-    }
-
-loop-again : tie.Need-loop-again Inv-loop μ-loop
-loop-again c =
+    })
+    (λ c. omega (arith, c .before .before .before .find2 .ensures))
+    (λ c.
     let line = c .before .before .before .before .before .before .before .before .before .args .line .now in
     let key = c .before .before .before .before .before .before .before .before .before .args .key .now in
     let l = c .before .before .before .before .before .loop in
@@ -80,11 +76,9 @@ loop-again c =
       omega arith,
       l .inv .1 ∙ values-miss key line (l .at) (f .result) (omega arith) (f .ensures) (l .inv .2 (omega arith)) miss,
       found 32 line (l .at + 1) (f .result) (f .ensures),
-    )
-
-returns-2 : tie.Need-returns-2 Inv-loop μ-loop
-unfolding shown
-returns-2 c =
+    ))
+    (λ c κs. tt)
+    (λ c.
     let a = c .before .before .before .before .before .before .args in
     let l = c .before .before .loop in
     rw (c .no-span .ensures)
@@ -93,26 +87,4 @@ returns-2 c =
       ordered = omega arith;
       inside = omega arith;
       onward = never;
-    })
-
-pub next-spec : {M : Type 1} → statement M
-next-spec =
-    tie.close
-    (tie.spec
-    Inv-loop
-    μ-loop
-    (λ c κs. tt)
-    loop-holds
-    (λ c. omega arith)
-    (λ c κs. tt)
-    sub-has-key
-    part-has-key-start
-    part-has-key-end
-    (λ c κs. tt)
-    add-t14
-    add-t15
-    returns
-    (λ c. omega (arith, c .before .before .before .find2 .ensures))
-    loop-again
-    (λ c κs. tt)
-    returns-2)
+    })))

@@ -2,9 +2,10 @@
 use mathlib.Core.Logic.{⊎-elim}
 use mathlib.Core.Bool.{or-true}
 use native.Mathlib.Omega.{arith}
-use Rattle.text.specs.Utf8.{within}
+use Rattle.utf8.specs.Utf8.{within}
 use Rattle.text.specs.Text.{white}
-use Rattle.text.proofs.Ranges.{inside, not-white}
+use Rattle.utf8.proofs.Ranges.{inside}
+use Rattle.text.proofs.White.{not-white}
 use Rattle.text.proofs.is_white.Statement.{statement}
 use Rattle.text.proofs.is_white.Tie as tie
 

@@ -5,7 +5,7 @@ use native.Mathlib.Omega.{arith}
 use borrow.Author.Needs.{needs}
 use lib.ListN.{length, drop, length-drop}
 use lib.Seq.{take-all}
-use Rattle.text.specs.Steps.{firstChar}
+use Rattle.utf8.specs.First.{firstChar}
 use Rattle.text.proofs.Scan.{Scanned, scan-start, scan-turn, scan-bad, scan-end, next-fits}
 use Rattle.text.proofs.trim.Statement.{statement}
 use Rattle.text.proofs.trim.Tie as tie

@@ -14,16 +14,6 @@ Inv-loop text at b i₀ i = (i ≤ length text) × (at + before b (drop at text)
 abbrev μ-loop : tie.MeasureT-loop
 μ-loop text at b i₀ i = length text - i
 
-returns : tie.Need-returns Inv-loop μ-loop
-returns c =
-    let l = c .before .before .before .loop in
-    omega (arith, before-here (c .before .before .before .before .args .b) (c .before .before .before .before .args .text .now) (l .i) (omega arith) (c .if1 .taken))
-
-loop-again : tie.Need-loop-again Inv-loop μ-loop
-loop-again c =
-    let l = c .before .before .before .loop in
-    (omega arith, omega (arith, before-more (c .before .before .before .before .args .b) (c .before .before .before .before .args .text .now) (l .i) (omega arith) (c .if1 .left)))
-
 pub end-of-spec : {M : Type 1} → statement M
 end-of-spec =
     tie.close
@@ -32,8 +22,12 @@ end-of-spec =
     μ-loop
     (λ c. (omega arith, refl))
     (λ c. omega arith)
-    returns
+    (λ c.
+    let l = c .before .before .before .loop in
+    omega (arith, before-here (c .before .before .before .before .args .b) (c .before .before .before .before .args .text .now) (l .i) (omega arith) (c .if1 .taken)))
     (λ c. omega arith)
     (λ c. omega arith)
-    loop-again
+    (λ c.
+    let l = c .before .before .before .loop in
+    (omega arith, omega (arith, before-more (c .before .before .before .before .args .b) (c .before .before .before .before .args .text .now) (l .i) (omega arith) (c .if1 .left))))
     (λ c. omega (arith, before-end (c .before .before .args .b) (c .before .before .args .text .now) (c .before .loop .i) (omega arith))))

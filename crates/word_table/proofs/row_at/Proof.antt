@@ -15,14 +15,8 @@ Inv-loop text n k₀ at₀ k at = getD (linesOf 10 text) n [] ≡ getD (linesOf 
 abbrev μ-loop : tie.MeasureT-loop
 μ-loop text n k₀ at₀ k at = length text - at
 
-loop-holds : tie.Need-loop-holds Inv-loop μ-loop
-loop-holds c = refl
-
-end-of-requires : tie.Need-end-of-requires Inv-loop μ-loop
-end-of-requires c κs = omega arith
-
-returns : tie.Need-returns Inv-loop μ-loop
-returns c =
+pub row-at-spec : {M : Type 1} → statement M
+row-at-spec = tie.close (tie.spec Inv-loop μ-loop (λ c. refl) (λ c κs. omega arith) (λ c.
     let s = c .before .before .before .before .before .args .text .now in
     let l = c .before .before .before .loop in
     let e = c .before .end-of in
@@ -31,44 +25,26 @@ returns c =
       ordered = omega arith;
       inside = omega arith;
       row = row-here s (l .k) (l .at) (e .result) (omega arith) (e .ensures) (c .before .before .before .before .before .args .n) (l .inv) (c .if1 .taken);
-    }
-
-add-at : tie.Need-add-at Inv-loop μ-loop
-add-at c =
+    }) (λ c.
     let s = c .before .before .before .before .before .args .text .now in
     let l = c .before .before .before .loop in
     let e = c .before .end-of in
     let h = end-inside 10 s (l .at) (e .result) (omega arith) (e .ensures) in
-    omega arith
-
-sub-k : tie.Need-sub-k Inv-loop μ-loop
-sub-k c = omega arith
-
-loop-less : tie.Need-loop-less Inv-loop μ-loop
-loop-less c =
+    omega arith) (λ c. omega arith) (λ c.
     let s = c .before .before .before .before .before .args .text .now in
     let l = c .before .before .before .loop in
     let e = c .before .end-of in
     let h = end-inside 10 s (l .at) (e .result) (omega arith) (e .ensures) in
-    omega arith
-
-loop-again : tie.Need-loop-again Inv-loop μ-loop
-loop-again c =
+    omega arith) (λ c.
     let s = c .before .before .before .before .before .args .text .now in
     let l = c .before .before .before .loop in
     let e = c .before .end-of in
     let h = end-inside 10 s (l .at) (e .result) (omega arith) (e .ensures) in
-    row-on s (l .k) (l .at) (e .result) (omega arith) (e .ensures) (c .before .before .before .before .before .args .n) (l .inv) (c .if1 .left)
-
-returns-2 : tie.Need-returns-2 Inv-loop μ-loop
-returns-2 c =
+    row-on s (l .k) (l .at) (e .result) (omega arith) (e .ensures) (c .before .before .before .before .before .args .n) (l .inv) (c .if1 .left)) (λ c.
     let s = c .before .before .before .args .text .now in
     let l = c .before .loop in
     record {
       ordered = omega arith;
       inside = omega arith;
       row = rw (l .inv, lines-end 10 s (l .at) (omega arith));
-    }
-
-pub row-at-spec : {M : Type 1} → statement M
-row-at-spec = tie.close (tie.spec Inv-loop μ-loop loop-holds end-of-requires returns add-at sub-k loop-less loop-again returns-2)
+    }))

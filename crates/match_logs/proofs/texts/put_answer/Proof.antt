@@ -1,8 +1,8 @@
 use mathlib.Core.Path.{refl, _∙_}
 use mathlib.Core.List.{[]}
 use denote.Ref.{now}
-use Rattle.replay_lines.specs.Page.{page}
-use Rattle.frame_log.specs.Walk.{Laid}
+use Rattle.replay_page.specs.Page.{page}
+use Rattle.frame_lines.specs.Walk.{Laid}
 use Rattle.match_logs.proofs.Logs.{answer-laid}
 use borrow.Author.Needs.{needs}
 use Rattle.match_logs.proofs.texts.put_answer.Statement.{statement}

@@ -1,5 +1,5 @@
-use Rattle.replay_lines.specs.Page.{item}
-use Rattle.frame_log.specs.Walk.{lay}
+use Rattle.replay_page.specs.Page.{item}
+use Rattle.frame_lines.specs.Walk.{lay}
 use borrow.Author.Needs.{needs}
 use Rattle.match_logs.proofs.texts.put_fault.Statement.{statement}
 use Rattle.match_logs.proofs.texts.put_fault.Tie as tie

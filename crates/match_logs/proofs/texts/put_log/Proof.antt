@@ -1,4 +1,4 @@
-use Rattle.replay_lines.specs.Page.{text}
+use Rattle.replay_page.specs.Page.{text}
 use borrow.Author.Needs.{needs}
 use Rattle.match_logs.proofs.texts.put_log.Statement.{statement}
 use Rattle.match_logs.proofs.texts.put_log.Tie as tie

@@ -1,4 +1,4 @@
-use Rattle.frame_log.specs.Walk.{lay}
+use Rattle.frame_lines.specs.Walk.{lay}
 use borrow.Author.Needs.{needs}
 use Rattle.match_logs.proofs.texts.put_over.Statement.{statement}
 use Rattle.match_logs.proofs.texts.put_over.Tie as tie

@@ -1,6 +1,6 @@
 use native.Mathlib.Omega.{arith}
-use Rattle.replay_lines.specs.Page.{item}
-use Rattle.frame_log.specs.Walk.{lay}
+use Rattle.replay_page.specs.Page.{item}
+use Rattle.frame_lines.specs.Walk.{lay}
 use borrow.Author.Needs.{needs}
 use Rattle.match_logs.proofs.texts.put_words.Statement.{statement}
 use Rattle.match_logs.proofs.texts.put_words.Tie as tie

@@ -9,38 +9,28 @@ use Rattle.replay_items.proofs.Laws.{laid-as, lay-as, took, took-none, 
 use Rattle.replay_items.proofs.bytes.lay.Statement.{statement}
 use Rattle.replay_items.proofs.bytes.lay.Tie as tie
 
-enum-told : tie.Need-enum-told
-enum-told c = search needs
-
-returns : tie.Need-returns
-unfolding hasBytes bytesAt
-returns c =
-    let s = c .before .before .before .before .before .before .before .before .before .before in
-    let a = s .args in
-    let v = itemOf (now (a .key)) (now (a .line)) in
-    let e = c .before .before .before .before .before .bytes-of .ensures in
-    let t = took _ _ _ (sym (laid-as (a .form) v (a .at) (length (now (a .room))) (s .pre)) ∙ sym (e .0) ∙ c .before .laid .given .1) in
-    record { has = sym (t .0); end = sym (t .1); memory = e .1 ∙ lay-as (a .form) v (a .at) (now (a .room)) (s .pre) }
-
-returns-2 : tie.Need-returns-2
-unfolding hasBytes bytesAt
-returns-2 c =
-    let s = c .before .before .before .before .before .before .before .before .before in
-    let a = s .args in
-    let v = itemOf (now (a .key)) (now (a .line)) in
-    let e = c .before .before .before .before .bytes-of .ensures in
-    let t = took-none _ _ (sym (laid-as (a .form) v (a .at) (length (now (a .room))) (s .pre)) ∙ sym (e .0) ∙ c .enum-told .given .1) in
-    let n = ap length (no-bytes (a .form) v t) in
-    record { has = sym t; end = rw n (sym (add-zero (a .at))); memory = e .1 ∙ lay-as (a .form) v (a .at) (now (a .room)) (s .pre) }
-
 pub lay-spec : {M : Type 1} → statement M
+unfolding bytesAt hasBytes
 lay-spec =
     tie.close
     (tie.spec
     (λ c κs. tt)
     (λ c. search needs)
-    enum-told
     (λ c. search needs)
-    returns
     (λ c. search needs)
-    returns-2)
+    (λ c fits.
+    let s = c .before .before .before .before .before .before .before .before .before .before in
+    let a = s .args in
+    let v = itemOf (now (a .key)) (now (a .line)) in
+    let e = c .before .before .before .before .before .bytes-of .ensures in
+    let t = took _ _ _ (sym (laid-as (a .form) v (a .at) (length (now (a .room))) fits) ∙ sym (e .0) ∙ c .before .laid .given .1) in
+    record { has = sym (t .0); end = sym (t .1); memory = e .1 ∙ lay-as (a .form) v (a .at) (now (a .room)) fits })
+    (λ c. search needs)
+    (λ c fits.
+    let s = c .before .before .before .before .before .before .before .before .before in
+    let a = s .args in
+    let v = itemOf (now (a .key)) (now (a .line)) in
+    let e = c .before .before .before .before .bytes-of .ensures in
+    let t = took-none _ _ (sym (laid-as (a .form) v (a .at) (length (now (a .room))) fits) ∙ sym (e .0) ∙ c .enum-told .given .1) in
+    let n = ap length (no-bytes (a .form) v t) in
+    record { has = sym t; end = rw n (sym (add-zero (a .at))); memory = e .1 ∙ lay-as (a .form) v (a .at) (now (a .room)) fits }))

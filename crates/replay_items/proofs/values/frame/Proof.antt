@@ -3,11 +3,8 @@ use borrow.Author.Needs.{needs}
 use Rattle.replay_items.proofs.values.frame.Statement.{statement}
 use Rattle.replay_items.proofs.values.frame.Tie as tie
 
-returns : tie.Need-returns
-unfolding frameAt
-returns c = rw (← c .before .before .before .before .before .before .can-id-of .ensures, ← c .before .before .before .before .small .ensures, ← c .before .before .small2 .ensures, ← c .before .data-of .ensures, ← c .frame-with .ensures)
-
 pub frame-spec : {M : Type 1} → statement M
+unfolding frameAt
 frame-spec =
     tie.close
     (tie.spec
@@ -18,4 +15,4 @@ frame-spec =
     (λ c κs. tt)
     (λ c κs. tt)
     (λ c κs. tt)
-    returns)
+    (λ c. rw (← c .before .before .before .before .before .before .can-id-of .ensures, ← c .before .before .before .before .small .ensures, ← c .before .before .small2 .ensures, ← c .before .data-of .ensures, ← c .frame-with .ensures)))

@@ -3,11 +3,8 @@ use borrow.Author.Needs.{needs}
 use Rattle.replay_items.proofs.values.switches.Statement.{statement}
 use Rattle.replay_items.proofs.values.switches.Tie as tie
 
-returns : tie.Need-returns
-unfolding switchesAt
-returns c = rw (← c .before .before .before .before .before .before .switch .ensures, ← c .before .before .before .before .switch2 .ensures, ← c .before .before .switch3 .ensures, ← c .switch4 .ensures)
-
 pub switches-spec : {M : Type 1} → statement M
+unfolding switchesAt
 switches-spec =
     tie.close
     (tie.spec
@@ -19,4 +16,4 @@ switches-spec =
     (λ c κs. tt)
     (λ c. search needs)
     (λ c κs. tt)
-    returns)
+    (λ c. rw (← c .before .before .before .before .before .before .switch .ensures, ← c .before .before .before .before .switch2 .ensures, ← c .before .before .switch3 .ensures, ← c .switch4 .ensures)))

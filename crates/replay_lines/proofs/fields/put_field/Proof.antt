@@ -1,5 +1,5 @@
 use borrow.Author.Needs.{needs}
-use Rattle.replay_lines.specs.Page.{item, flag, word}
+use Rattle.replay_page.specs.Page.{item, flag, word}
 use Rattle.replay_lines.proofs.fields.put_field.Statement.{statement}
 use Rattle.replay_lines.proofs.fields.put_field.Tie as tie
 

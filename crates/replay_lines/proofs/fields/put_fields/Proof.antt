@@ -4,7 +4,7 @@ use Prim.Native.Nat.{_≤_, _-_, _+_}
 use native.Mathlib.Omega.{arith}
 use lib.ListN.{length, drop}
 use borrow.Author.Needs.{needs}
-use Rattle.replay_lines.specs.Page.{page}
+use Rattle.replay_page.specs.Page.{page}
 use Rattle.replay_lines.specs.declared.fields.Field.the-variants.{Nothing}
 use Rattle.replay_lines.specs.Fields.{putFields}
 use Rattle.replay_lines.proofs.Laws.{fields-again, fields-end}

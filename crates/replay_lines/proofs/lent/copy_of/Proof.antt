@@ -2,7 +2,7 @@ use mathlib.Core.Path.{refl, sym}
 use native.Mathlib.Nat.{zero-add}
 use denote.Ref.{now}
 use borrow.Author.Needs.{needs}
-use Rattle.replay_lines.proofs.Laws.{front}
+use Rattle.replay_page.proofs.Laws.{front}
 use Rattle.replay_lines.proofs.lent.copy_of.Statement.{statement}
 use Rattle.replay_lines.proofs.lent.copy_of.Tie as tie
 

@@ -1,6 +1,6 @@
 use borrow.Author.Needs.{needs}
 use Rattle.replay_lines.specs.Lent.{output}
-use Rattle.replay_lines.specs.Page.{known}
+use Rattle.replay_page.specs.Page.{known}
 use Rattle.replay_lines.specs.Table.{keys, keyNames}
 use Rattle.replay_lines.proofs.lent.put_output.Statement.{statement}
 use Rattle.replay_lines.proofs.lent.put_output.Tie as tie

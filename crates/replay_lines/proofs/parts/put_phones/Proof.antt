@@ -8,7 +8,7 @@ use denote.Ref.{now}
 use lib.ListN.{length, take, drop}
 use Rattle.phones.specs.Phones.{idsIn, phonesOf}
 use Rattle.phones.proofs.Walk.{Walk, walk-none, walk-here, walk-on}
-use Rattle.replay_lines.specs.Page.{page}
+use Rattle.replay_page.specs.Page.{page}
 use Rattle.replay_lines.specs.Parts.{idsFrom, idAt}
 use Rattle.replay_lines.proofs.Laws.{ids-again, ids-end}
 use Rattle.replay_lines.proofs.parts.put_phones.Statement.{statement}

@@ -1,7 +1,7 @@
 use borrow.Author.Needs.{needs}
 use Rattle.replay_lines.specs.Table.{keys, keyNames}
 use Rattle.replay_running.specs.Session.{code}
-use Rattle.replay_lines.specs.Page.{word, digits}
+use Rattle.replay_page.specs.Page.{word, digits}
 use Rattle.replay_running.proofs.session.put_code.Statement.{statement}
 use Rattle.replay_running.proofs.session.put_code.Tie as tie
 

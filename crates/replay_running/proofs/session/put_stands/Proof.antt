@@ -3,7 +3,7 @@ use borrow.Author.Needs.{needs}
 use Rattle.replay_lines.specs.Table.{keys, keyNames}
 use Rattle.replay_lines.specs.Fields.{putFields}
 use Rattle.replay_running.specs.Session.{stands}
-use Rattle.replay_lines.specs.Page.{known}
+use Rattle.replay_page.specs.Page.{known}
 use Rattle.replay_running.proofs.session.put_stands.Statement.{statement}
 use Rattle.replay_running.proofs.session.put_stands.Tie as tie
 

@@ -1,9 +1,0 @@
-use mathlib.Core.Path.{refl}
-use Rattle.arrays.specs.Arrays.{padded}
-use Rattle.can_queue.specs.Calls.{reportOf}
-use Rattle.can_queue.proofs.no_report.Statement.{statement}
-use Rattle.can_queue.proofs.no_report.Tie as tie
-
-pub no-report-spec : {M : Type 1} → statement M
-unfolding reportOf padded
-no-report-spec = tie.close (tie.spec (λ c. refl))

@@ -1,0 +1,4 @@
+pub mod Pages
+pub mod Words
+pub mod Numbers
+pub mod Theorems

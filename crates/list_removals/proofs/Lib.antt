@@ -1,0 +1,3 @@
+pub mod Marks
+pub mod Turns
+pub mod Moving
