@@ -43,7 +43,7 @@ pub fn put_too_long(number: u64, out: &mut [u8]) -> usize
     replay_page::put_text(out, k, b" error=line_too_long\n")
 }
 
-// Memory for what a line gives.
+// Memory for what a line gives. What is in it is left open: each byte that is printed is written first.
 pub fn line_memory() -> [u8; 49152]
     ensures { λ r. ⌜ lineRoom ≤ length r ⌝ }
 {
