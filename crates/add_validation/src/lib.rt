@@ -1,4 +1,6 @@
 // A phone validated for a car: add_phone_validation (phone_trust.rs).
+#![tactic(auto)]
+
 ghost use Rattle.std.specs.Prelude.{◌≡◌, [], ◌∷◌, ◌++◌, ◌<◌, length};
 ghost use Rattle.phones.specs.Phones.{id_bytes};
 ghost use Rattle.saved_record.specs.Store.{cars_of, store_of};

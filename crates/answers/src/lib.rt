@@ -1,4 +1,5 @@
 // What the queries answer, on a core in range or out of it (25). No query changes the gate or raises a signal.
+#![tactic(auto)]
 
 use phone_trust::Trust;
 use phones::{PhoneList, ShortId};

@@ -1,5 +1,7 @@
 // The calls of the gate as the benchmark runs them (docs/BENCHMARKS.md): many times over, on a gate that is held here, since
 // an enum, and so a gate, does not cross to C or Rust. Each round gives a sum over what was answered and raised.
+#![tactic(auto)]
+
 pub mod held;
 pub mod seen;
 

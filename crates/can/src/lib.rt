@@ -1,4 +1,6 @@
 // The calls on the buses: the vehicle's flag and the host's notes, on a core in range (can.rs).
+#![tactic(auto)]
+
 ghost use Rattle.std.specs.Prelude.{◌≡◌};
 ghost use Rattle.can.specs.Can.{note_fd_bus, note_logging, set_read_only};
 ghost use Rattle.can.specs.Can as Can;

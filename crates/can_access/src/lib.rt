@@ -1,4 +1,6 @@
 // The calls on the approval, on a core in range (can_access.rs).
+#![tactic(auto)]
+
 ghost use Rattle.std.specs.Prelude.{◌≡◌};
 ghost use Rattle.can_access.specs.Approval.{restore_approval, revoke_approval};
 ghost use Rattle.can_access.specs.Approval as Approval;

@@ -1,4 +1,6 @@
 // The calls of the identity probe, on a core in range (can_probe.rs).
+#![tactic(auto)]
+
 ghost use Rattle.std.specs.Prelude.{◌≡◌};
 ghost use Rattle.can_probe.specs.Calls.{is_valid_probe, window_changed, open_probe, close_probe, heard};
 

@@ -1,4 +1,6 @@
 // Frames that wait, sixteen records by value: sending one, on a gate in range (02, W-204).
+#![tactic(auto)]
+
 ghost use Rattle.std.specs.Prelude.{◌≡◌, [], ◌-◌, ◌<◌};
 ghost use Rattle.phones.specs.Phones.{made_id};
 ghost use Rattle.can_queue.specs.Calls as Calls;

@@ -1,4 +1,6 @@
 // Frames that wait, sixteen records by value: a turn, and a run of turns, on a gate in range (02, W-204).
+#![tactic(auto)]
+
 ghost use Rattle.std.specs.Prelude.{◌≡◌, [], min, ◌-◌, ◌<◌};
 ghost use Rattle.state.specs.View.{lists_in};
 ghost use Rattle.can_turns.specs.Turns.{owner_validated, no_turn, report_of, serving};

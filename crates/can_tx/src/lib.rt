@@ -1,4 +1,6 @@
 // The check of every outbound frame, on a core in range (can_probe.rs).
+#![tactic(auto)]
+
 ghost use Rattle.std.specs.Prelude.{◌≡◌, ◌&&◌, eqb};
 ghost use Rattle.state.specs.Answers.{values, is_yes};
 ghost use Rattle.probe_window.specs.Window.{is_open};

@@ -1,4 +1,6 @@
 // The digest of a car: SHA-256 over a fixed byte string, the platform number and the fingerprint (can_access.rs, car_digest).
+#![tactic(auto)]
+
 ghost use Rattle.std.specs.Prelude.{◌++◌, ◌≡◌, ◌%◌};
 ghost use Rattle.car_digest.specs.CarDigest.{car_digest, domain};
 ghost use Rattle.car_digest.specs.CarDigest as CarDigest;

@@ -1,4 +1,6 @@
 // The calls on the platform and the car's fingerprint, on a core in range (can.rs, can_access.rs).
+#![tactic(auto)]
+
 ghost use Rattle.std.specs.Prelude.{◌≡◌};
 ghost use Rattle.car_identity.specs.CarIdentity.{confirm_fingerprint, confirm_platform, note_platform, revoke_platform};
 

@@ -6,7 +6,7 @@ use native.Mathlib.Omega.{arith}
 use lib.ListN.{length, length-append}
 use Rattle.ascii.specs.Ascii.{ascii}
 use Rattle.decimal.specs.Decimal.{decimal_of}
-use Rattle.hex.specs.Hex.{hex_of}
+use Rattle.hexadecimal.specs.Hex.{hex_of}
 use Rattle.saved_record.specs.SavedRecord.{CarIds}
 use Rattle.car_lines.specs.Lines.{line, phone_lines, car_lines}
 use Rattle.car_lines.specs.Walk.{Wrote}

@@ -8,7 +8,7 @@ use lib.ListN.{length, take, drop, drop_of_length-le, length-append, length-drop
 use lib.Seq.{drop-append_seam, drop-drop, take-append_seam}
 use Rattle.ascii.specs.Ascii.{ascii}
 use Rattle.arrays.specs.Arrays.{put}
-use Rattle.hex.specs.Hex.{hex_of}
+use Rattle.hexadecimal.specs.Hex.{hex_of}
 use Rattle.reader.specs.declared.Field.TheVariants.{Whole, Short, End}
 use Rattle.reader.specs.Reader.{field_at}
 use Rattle.reader.proofs.Laws.{field_whole}

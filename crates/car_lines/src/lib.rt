@@ -1,7 +1,9 @@
 // The lines that the listing program prints for a car.
+#![tactic(auto)]
+
 ghost use Rattle.std.specs.Prelude.{◌≡◌, [], ◌∷◌, ◌+◌, ◌≤◌, ◌<◌, length};
 ghost use Rattle.decimal.specs.Decimal.{decimal_of};
-ghost use Rattle.hex.specs.Hex.{hex_of};
+ghost use Rattle.hexadecimal.specs.Hex.{hex_of};
 ghost use Rattle.saved_record.specs.SavedRecord.{car_part};
 ghost use Rattle.saved_record.specs.Store.{car_of};
 ghost use Rattle.car_lines.specs.Lines.{line, phone_lines, car_lines};
@@ -42,7 +44,7 @@ fn put_hex_line(dst: &mut [u8], at: usize, name: &[u8], bytes: &[u8]) -> usize
     ensures { Wrote dst.old at (line name.now (hex_of bytes.now)) dst.new result }
 {
     let from = put_text(&mut *dst, at, name);
-    hex::put_hex(&mut *dst, from, bytes);
+    hexadecimal::put_hex(&mut *dst, from, bytes);
     put_end(&mut *dst, from + 2 * bytes.len())
 }
 

@@ -1,4 +1,6 @@
 // Cancel and complete, on a core in range (validation.rs).
+#![tactic(auto)]
+
 ghost use Rattle.std.specs.Prelude.{◌≡◌};
 ghost use Rattle.validation.specs.Calls as Calls;
 

@@ -1,6 +1,8 @@
 // Reads a record on standard input and writes it as the version that the argument names, 1 or 2. What is written is what
 // `converter::convert_phone_validations` lays down for what was read; of a refusal, its number and name stand on standard error. What a
 // program reads and writes is open to a contract: functions that read or write give nothing back.
+#![tactic(auto)]
+
 ghost use Rattle.std.specs.Prelude.{◌≡◌};
 ghost use Rattle.convert.specs.Arguments.{target_of};
 

@@ -1,4 +1,6 @@
 // Records for older packs: a saved record as version 1 or as version 2, whichever it is. No call on the gate: it takes none.
+#![tactic(auto)]
+
 ghost use Rattle.std.specs.Prelude.{◌≡◌, ◌++◌, ◌+◌, ◌-◌, ◌≤◌, length, drop};
 ghost use Rattle.converter.specs.Convert.{outcome_of, no_room, laid_down, converted};
 ghost use Rattle.converter.specs.Steps.{Accepted};

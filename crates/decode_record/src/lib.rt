@@ -1,4 +1,6 @@
 // A saved record read: the store that it says, from version 1 or 2.
+#![tactic(auto)]
+
 ghost use Rattle.std.specs.Prelude.{◌≡◌, true, cond, ◌+◌, ◌≤◌, length};
 ghost use Rattle.saved_record.specs.SavedRecord.{read_car, read_cars, read_two, nothing_after, judged, decoded};
 ghost use Rattle.saved_record.specs.Store.{refusal, restored};

@@ -15,7 +15,7 @@ use Rattle.phone_fields.specs.PhoneFields.{any_long, before, field, fields, over
 use Rattle.saved_record.specs.SavedRecord.{car_part, car_parts, encoded, of_car, read_counted, read_after, read_car, read_on, read_cars, read_two, read_version, nothing_after, has_car, twice, over, judged, decoded}
 use Rattle.saved_record.specs.Store.{car_of, laid_car, empty_car, cars_of, store_of}
 use Rattle.decimal.specs.Decimal.{digits_up_to, decimal_of}
-use Rattle.hex.specs.Hex.{digit, hex_of}
+use Rattle.hexadecimal.specs.Hex.{digit, hex_of}
 use Rattle.car_lines.specs.Lines.{line, phone_lines, car_lines}
 use Rattle.listing.specs.Listing.{each_car, accepted_lines, refused_lines, lines_of, lines}
 use Rattle.state.specs.declared.Status.{Status}

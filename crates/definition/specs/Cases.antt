@@ -200,9 +200,9 @@ opened = heard 100 ∷ open_probe 100 ∷ []
 
 -- at a time: whether the window is open, whether the frame may be sent, whether the bus is listen-only
 abbrev pub window_at : ℕ → Bool → Values → Values → List Row
-window_at clock isOpenThen maySend is_listen_only =
-    (truth (is_open (after_all platform opened).core.policy (after_all platform opened).core.probe 0 clock) gives truth isOpenThen) ∷
-    (answer_after platform opened (send_entry clock) gives says maySend) ∷
+window_at clock is_open_then may_send is_listen_only =
+    (truth (is_open (after_all platform opened).core.policy (after_all platform opened).core.probe 0 clock) gives truth is_open_then) ∷
+    (answer_after platform opened (send_entry clock) gives says may_send) ∷
     (answer_after platform opened (ask (is_can_bus_listen_only 0 clock)) gives says is_listen_only) ∷ []
 
 -- P10 window opened at 100: open at 6,099 and at 50, shut at 6,100. P11 two equal probe entries: two frames pass, the third not.

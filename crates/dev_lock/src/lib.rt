@@ -1,4 +1,6 @@
 // The calls on the dev lock, on a core in range (can_access.rs).
+#![tactic(auto)]
+
 ghost use Rattle.std.specs.Prelude.{◌≡◌};
 ghost use Rattle.dev_lock.specs.DevLock.{set_dev_unlocked, declare_production};
 

@@ -1,4 +1,6 @@
 // The draw of a code from lent random bytes.
+#![tactic(auto)]
+
 ghost use Rattle.std.specs.Prelude.{◌≡◌, ◌+◌, ◌^◌, ◌≤◌, ◌<◌, length};
 ghost use Rattle.arrays.specs.Arrays.{padded};
 ghost use Rattle.draw.specs.Draw.{group_at, first_below, digits, drawn};

@@ -1,4 +1,6 @@
 // The saved record of a store, written as version 2.
+#![tactic(auto)]
+
 ghost use Rattle.std.specs.Prelude.{◌≡◌, ◌+◌, ◌≤◌, length};
 ghost use Rattle.saved_record.specs.SavedRecord.{encoded, record_of};
 ghost use Rattle.saved_record.specs.Store.{car_of, cars_of};

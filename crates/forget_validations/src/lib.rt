@@ -1,5 +1,7 @@
 // A phone's validation taken out of the store: forgotten under every car, or pruned where it is not paired (phone_trust.rs). A car
 // without phones leaves.
+#![tactic(auto)]
+
 ghost use Rattle.std.specs.Prelude.{◌≡◌, true};
 ghost use Rattle.phones.specs.Ids.{contains, remove_all, retain_in, some_of, stays};
 ghost use Rattle.phones.specs.Phones.{phones_of};

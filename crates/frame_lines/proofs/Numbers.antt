@@ -10,8 +10,8 @@ use lib.ListN.{length, length-append, replicate}
 use Rattle.arrays.specs.Arrays.{same_bytes}
 use Rattle.arrays.proofs.Laws.{both}
 use Rattle.decimal.specs.Decimal.{digits_up_to, decimal_of}
-use Rattle.hex.specs.Hex.{digit, hex_of}
-use Rattle.hex.proofs.Laws.{value_digit, hex_length}
+use Rattle.hexadecimal.specs.Hex.{digit, hex_of}
+use Rattle.hexadecimal.proofs.Laws.{value_digit, hex_length}
 use Rattle.word_table.specs.Words.{before}
 use Rattle.replay_digits.specs.Digits.{value_or16, digit_of, number_from, number_in, all_digits, is_hex, pairs_of}
 use Rattle.replay_values.specs.Values.{id_with, id_in, data_in}

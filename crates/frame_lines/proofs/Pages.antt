@@ -11,8 +11,8 @@ use lib.ListN.{length, take, drop, length-append, length-take, take-append-drop}
 use Rattle.arrays.specs.Arrays.{put}
 use Rattle.arrays.proofs.Laws.{put_take, put_length}
 use Rattle.decimal.proofs.Laws.{decimal_length}
-use Rattle.hex.specs.Hex.{digit}
-use Rattle.hex.proofs.Laws.{hex_length}
+use Rattle.hexadecimal.specs.Hex.{digit}
+use Rattle.hexadecimal.proofs.Laws.{hex_length}
 use Rattle.frames.specs.Frames.{raw_of}
 use Rattle.frames.specs.declared.Id.{Id}
 use Rattle.frames.specs.declared.Id.TheVariants.{Standard, Extended}

@@ -12,8 +12,8 @@ use Rattle.arrays.specs.Arrays.{same_bytes}
 use Rattle.arrays.proofs.Laws.{same_refl, same_bytes_is}
 use Rattle.ascii.specs.Ascii.{ascii}
 use Rattle.decimal.specs.Decimal.{decimal_of}
-use Rattle.hex.specs.Hex.{hex_of}
-use Rattle.hex.proofs.Laws.{hex_length}
+use Rattle.hexadecimal.specs.Hex.{hex_of}
+use Rattle.hexadecimal.proofs.Laws.{hex_length}
 use Rattle.frames.specs.Frames.{raw_of, can_id_in_range}
 use Rattle.frames.specs.declared.Id.{Id}
 use Rattle.frames.specs.declared.Id.TheVariants.{Standard, Extended}

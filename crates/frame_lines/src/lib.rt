@@ -1,9 +1,11 @@
 // A line of a log of frames: the entry that it says, and the line of an entry. It is `time= bus= kind= id= dlc= data=` with one
 // space between them and byte 10 at its end. It is read in two steps: what may stand in it is taken as it comes, and the line
 // of that is written and compared with it. So only what an entry's line looks like has to be known.
+#![tactic(auto)]
+
 ghost use Rattle.std.specs.Prelude.{◌≡◌, ◌≤◌, length, take, drop};
 ghost use Rattle.arrays.specs.Arrays.{same_bytes};
-ghost use Rattle.hex.specs.Hex.{hex_of};
+ghost use Rattle.hexadecimal.specs.Hex.{hex_of};
 ghost use Rattle.replay_page.specs.Page.{page, text};
 ghost use Rattle.log_entries.specs.Entries.{entry};
 ghost use Rattle.replay_digits.specs.Digits.{number_in};

@@ -10,7 +10,7 @@ use lib.Dec.{eqb, ltb}
 use lib.ListN.{length, take, drop, length-append, length-take}
 use lib.Seq.{length-take-le, take-nil, take-take}
 use Rattle.decimal.proofs.Laws.{decimal_length}
-use Rattle.hex.proofs.Laws.{hex_length}
+use Rattle.hexadecimal.proofs.Laws.{hex_length}
 use Rattle.frames.specs.Frames.{raw_of}
 use Rattle.log_entries.specs.Entries.{Entry, entry}
 use Rattle.frame_lines.specs.declared.LineEntry.{LineEntry}

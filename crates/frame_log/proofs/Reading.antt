@@ -167,8 +167,8 @@ module _ (s : List ℕ) (frames : List CanFrame) (times : List ℕ) (n at last :
   kept_end h =
       let e : read_from n last (lines_of (drop at s)) ≡ read [] = ap (λ (x : List ℕ). read_from n last (lines_of x)) (drop_of_length-le s h) in
       let r : reading s ≡ read k.es = k.left ∙ (ap (upto k.es) e ∙ upto_read k.es) in
-      let f = k.frames-are in
-      let t = k.times-are in
+      let f = k.frames_are in
+      let t = k.times_are in
       let m = k.count in
       (λ j. record { answer = Read; log = record { frames = f j; count = m j }; times = t j }) ∙ sym (ap by_value r)
 
@@ -204,7 +204,7 @@ module _ (s : List ℕ) (frames : List CanFrame) (times : List ℕ) (n at last :
           few = omega arith;
           es = k.es ++ (x ∷ []);
           count = omega arith;
-          frames_are = pushed empty_frame frame_of k.es x frames n d m k.frames-are;
-          times_are = pushed 0 time_of k.es x times n d m k.times-are;
+          frames_are = pushed empty_frame frame_of k.es x frames n d m k.frames_are;
+          times_are = pushed 0 time_of k.es x times n d m k.times_are;
           left = turn ∙ rw (a, le-ltb e.time last b, lt-ltb n 512 d, add-one n) (sym (upto_snoc k.es x (read_from (suc n) e.time (lines_of (drop end s)))));
         }

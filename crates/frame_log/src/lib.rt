@@ -1,4 +1,6 @@
 // A log: its lines one after the other, each behind the byte 10 of the one before it.
+#![tactic(auto)]
+
 ghost use Rattle.std.specs.Prelude.{◌≡◌, [], ◌+◌, ◌<◌, length, drop};
 ghost use Rattle.frame_log.specs.Logs.{log_read, read_log, line_length};
 

@@ -1,4 +1,6 @@
 // CAN ids and frames, the class of a frame to send, the buses.
+#![tactic(auto)]
+
 ghost use Rattle.std.specs.Prelude.{◌≡◌};
 ghost use Rattle.arrays.specs.Arrays.{same_bytes};
 ghost use Rattle.frames.specs.Frames.{raw_of, can_id_in_range, same_id, is_entry, bus_exists, is_command};

@@ -1,5 +1,7 @@
 // The calls on the approval, the dev lock, the identity and the vehicle's flag: one function for each. State by value in; answer, signals and state by value
 // out. Each promise is an equation with `step` of definition/specs/Gate.antt, for every gate that is lent.
+#![tactic(auto)]
+
 ghost use Rattle.std.specs.Prelude.{◌≡◌};
 ghost use Rattle.definition.specs.Gate.{approve_can_read_write, revoke_can_read_write_approval, restore_can_read_write_approval, set_can_dev_write_unlocked, declare_production_build, confirm_car_identity, revoke_car_identity, confirm_car_fingerprint, set_can_read_only, on_core, step, given};
 

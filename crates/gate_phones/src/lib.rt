@@ -1,5 +1,7 @@
 // The calls on the pairings, the validations and the connected phone: one function for each. State by value in; answer, signals and state by value
 // out. Each promise is an equation with `step` of definition/specs/Gate.antt, for every gate that is lent.
+#![tactic(auto)]
+
 ghost use Rattle.std.specs.Prelude.{◌≡◌};
 ghost use Rattle.definition.specs.Gate.{add_paired_phone, remove_paired_phone, clear_paired_phones, forget_phone_validation, prune_phone_validations, restore_phone_validations, set_ble_peer, open_phone_validations_save, take_phone_validations_save, on_lists, on_save, on_core, step, given, lent_given};
 ghost use Rattle.saved_record.specs.Store.{cars_of};

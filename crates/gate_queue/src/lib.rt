@@ -2,6 +2,8 @@
 // and state by value out. The promises of the two calls are equations with `step` of definition/specs/Gate.antt, for every gate and every
 // list that is lent; those of their parts, which have the sixteen records by value, with specs/Given.antt. The two calls, and `load` and
 // `store` of waiting_list, alone see the lent list.
+#![tactic(auto)]
+
 ghost use Rattle.std.specs.Prelude.{◌≡◌};
 ghost use Rattle.definition.specs.Gate.{send_can_frame, serve_can_frames, on_queue, step, lent_records, ran_given};
 ghost use Rattle.gate_queue.specs.Given.{sending_of, sent_of, unsent_of, ran_of, served_of, unserved_of};

@@ -1,5 +1,7 @@
 // New gate, and the calls of a session: one function for each. State by value in; answer, signals and state by value
 // out. Each promise is an equation with `step` of definition/specs/Gate.antt, for every gate that is lent.
+#![tactic(auto)]
+
 ghost use Rattle.std.specs.Prelude.{◌≡◌, cond};
 ghost use Rattle.definition.specs.Gate.{NewFrom, cancel_validation, complete_validation_action, tick_validation, start_validation, submit_validation_code, on_session, full_for, step, given};
 ghost use Rattle.state.specs.View.{view};

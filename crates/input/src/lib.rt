@@ -1,4 +1,6 @@
 // What a program reads: a file or a stream to its end, into memory that the caller lends.
+#![tactic(auto)]
+
 ghost use Rattle.std.specs.Prelude.{length};
 ghost use Rattle.input.specs.Input.{Within};
 

@@ -1,4 +1,6 @@
 // What a code that was judged brings a running session, on a core in range (validation.rs): a try less, its failure, or its success.
+#![tactic(auto)]
+
 ghost use Rattle.std.specs.Prelude.{◌≡◌};
 ghost use Rattle.validation.specs.Calls.{failed_core, wrong_answer, right_code, judge_as};
 ghost use Rattle.validation.specs.Calls as Calls;

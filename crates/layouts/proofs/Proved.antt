@@ -71,15 +71,15 @@ packs w h =
     let ids = wide_ids w.paired in
     let cars = wide_cars w.store in
     let ids_in = wide_range_fits w.paired r.0 in
-    let carsIn = wide_store_fits w.store r.1 in (
+    let cars_in = wide_store_fits w.store r.1 in (
       record { core = w.core; phones = record { paired = list_of ids; store = store_of cars }; save = w.save; queue = w.queue; code = w.code },
       packed_sized ids ids_in,
-      store_sized cars carsIn,
+      store_sized cars cars_in,
       λ i. record {
         core = w.core;
         lists = record { paired = phones_of_list ids i; store = cars_of_store cars i };
         paired_fits = (fits_of_list ids ∙ ids_in ∙ sym r.0) i;
-        store_fits = (store_range cars ∙ cars_fit_lem cars carsIn ∙ sym r.1) i;
+        store_fits = (store_range cars ∙ cars_fit_lem cars cars_in ∙ sym r.1) i;
         save = w.save;
         queue = w.queue;
         code = w.code;
@@ -93,15 +93,15 @@ unpacks g h =
     let ids = phones_of g.phones.paired in
     let cars = cars_of g.phones.store in
     let ids_in = range_fits g.phones.paired r.0 in
-    let carsIn = store_fits_lem g.phones.store r.1 in (
+    let cars_in = store_fits_lem g.phones.store r.1 in (
       record { core = g.core; paired = wide_of ids; store = wide_store_of cars; save = g.save; queue = g.queue; code = g.code },
       wide_sized ids ids_in,
-      wide_store_sized cars carsIn,
+      wide_store_sized cars cars_in,
       λ i. record {
         core = g.core;
         lists = record { paired = wide_reads ids i; store = wide_store_reads cars i };
         paired_fits = (wide_fits ids ∙ ids_in ∙ sym r.0) i;
-        store_fits = (wide_store_range cars ∙ cars_fit_lem cars carsIn ∙ sym r.1) i;
+        store_fits = (wide_store_range cars ∙ cars_fit_lem cars cars_in ∙ sym r.1) i;
         save = g.save;
         queue = g.queue;
         code = g.code;

@@ -1,5 +1,7 @@
 // Reads a record on standard input and prints its listing. What is printed is `listing::list_record` of what was read. What a
 // program reads and writes is open to a contract: `print_listing` and `main` give nothing back.
+#![tactic(auto)]
+
 use input::Input;
 use libc::{STDIN_FILENO, STDOUT_FILENO};
 

@@ -1,6 +1,8 @@
 // The listings of records that documents 01 and 02 speak of, each after lines with the case's name and the number of the verdict on it as a
 // record. What a program writes is open to a contract: the `show` functions and `main` give nothing back, and the file `stdout` has
 // what they write.
+#![tactic(auto)]
+
 ghost use Rattle.std.specs.Prelude.{◌≡◌};
 ghost use Rattle.list_cases.specs.Records.{written, with_byte, with_run, with_digest, with_head, with_cars, with_phone, with_phones, with_car};
 

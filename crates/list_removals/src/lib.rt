@@ -1,5 +1,7 @@
 // Ids taken out of a list: the first that is a string, every one that is, or every one that another list does not have. What stays
 // moves together, with zeros past it.
+#![tactic(auto)]
+
 ghost use Rattle.std.specs.Prelude.{◌≡◌, not, List, ℕ, min, take};
 ghost use Rattle.arrays.specs.Arrays.{same_bytes};
 ghost use Rattle.phones.specs.Ids.{contains, keep_where, remove_first, remove_all, retain_in};

@@ -4,7 +4,7 @@ use mathlib.Core.List.{[], ◌∷◌, ◌++◌}
 use Prim.Native.Nat.{ℕ}
 use Rattle.ascii.specs.Ascii.{ascii}
 use Rattle.decimal.specs.Decimal.{digits_up_to, decimal_of}
-use Rattle.hex.specs.Hex.{digit, hex_of}
+use Rattle.hexadecimal.specs.Hex.{digit, hex_of}
 use Rattle.saved_record.proofs.Cases.{the_record, p12, p13}
 use Rattle.car_lines.specs.Lines.{line, phone_lines, car_lines}
 use Rattle.listing.specs.Listing.{each_car, accepted_lines, refused_lines, lines_of, lines}

@@ -12,8 +12,8 @@ use Rattle.ascii.specs.Ascii.{ascii}
 use Rattle.arrays.proofs.Laws.{padded_length}
 use Rattle.decimal.specs.Decimal.{decimal_of}
 use Rattle.decimal.proofs.Laws.{decimal_length}
-use Rattle.hex.specs.Hex.{hex_of}
-use Rattle.hex.proofs.Laws.{hex_length}
+use Rattle.hexadecimal.specs.Hex.{hex_of}
+use Rattle.hexadecimal.proofs.Laws.{hex_length}
 use Rattle.phones.proofs.Search.{none_cons}
 use Rattle.phone_fields.specs.PhoneFields.{any_long, over_limits}
 use Rattle.saved_record.specs.declared.Decoded.{Decoded}

@@ -1,4 +1,6 @@
 // What the listing program prints for a record.
+#![tactic(auto)]
+
 ghost use Rattle.std.specs.Prelude.{◌≡◌, ◌≤◌, length};
 ghost use Rattle.saved_record.specs.SavedRecord.{car_parts};
 ghost use Rattle.saved_record.specs.Store.{cars_of};

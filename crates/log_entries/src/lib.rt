@@ -1,4 +1,6 @@
 // Entries of a log of frames, each a frame and its time in ms: whether a recorded one can be that of a journal.
+#![tactic(auto)]
+
 ghost use Rattle.std.specs.Prelude.{◌≡◌};
 ghost use Rattle.log_entries.specs.Entries.{same_frame, entry, fits};
 

@@ -1,4 +1,6 @@
 // What the longer answers of the queries hold, on a gate in range, and what they hold under 25.
+#![tactic(auto)]
+
 ghost use Rattle.std.specs.Prelude.{◌≡◌, false, [], ◌-◌, min, ltb, length, take};
 ghost use Rattle.arrays.specs.Arrays.{padded};
 ghost use Rattle.phones.specs.Phones.{id_bytes, id_of};

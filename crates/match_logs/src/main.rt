@@ -1,5 +1,7 @@
 // Holds a gate's journal against a bus recorder. The arguments are the paths of both logs; what is printed is the line of
 // `texts::match_texts` of what was read.
+#![tactic(auto)]
+
 mod texts;
 
 ghost use Rattle.std.specs.Prelude.{length};

@@ -1,5 +1,7 @@
 // A gate's journal against a bus recorder: whether the recorded frames can be given different entries of the journal. The frames of
 // a log stand in the first `count` places of its array, and the rest is not looked at. Times are lent beside the frames.
+#![tactic(auto)]
+
 ghost use Rattle.std.specs.Prelude.{◌≡◌, false, cond};
 ghost use Rattle.log_entries.specs.Entries.{entry, fits};
 ghost use Rattle.matcher.specs.Match.{entries_of, wrong_size, first_fall, number_of, match_of};

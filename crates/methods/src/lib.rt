@@ -1,4 +1,6 @@
 // The host's notes on the methods, on a core in range (validation.rs).
+#![tactic(auto)]
+
 ghost use Rattle.std.specs.Prelude.{◌≡◌, ◌<◌, set};
 ghost use Rattle.methods.specs.Notes.{is_place, note_available, note_continue};
 

@@ -1,4 +1,6 @@
 // New gate: read-only, with the source's starting statics.
+#![tactic(auto)]
+
 ghost use Rattle.std.specs.Prelude.{◌≡◌, take, ◌&&◌, [], map};
 ghost use Rattle.arrays.specs.Arrays.{padded};
 ghost use Rattle.state.specs.Running.{no_method, clean_method};

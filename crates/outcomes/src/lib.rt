@@ -1,6 +1,8 @@
 // What a call gives, put together from what its operation says: the gate that it leaves, and its signals. S is made here and
 // nowhere else, of the store that is left. On a gate out of range the operation counts as one that answers 25 and leaves all as it is.
 // A gate is put together from its parts, each copied once.
+#![tactic(auto)]
+
 ghost use Rattle.std.specs.Prelude.{◌≡◌};
 ghost use Rattle.state.specs.declared.Answer.TheVariants.{BadSettings};
 ghost use Rattle.state.specs.Replies.{nothing_raised, no_code, sent_s, code_at, showing};

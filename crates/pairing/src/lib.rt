@@ -1,4 +1,6 @@
 // The calls on the pairings and the connected phone, on a gate in range (pairing.rs, phone_trust.rs).
+#![tactic(auto)]
+
 ghost use Rattle.std.specs.Prelude.{◌≡◌};
 ghost use Rattle.phones.specs.Phones.{phones_of};
 ghost use Rattle.state.specs.View.{lists_in, lists_stay, listed_in};

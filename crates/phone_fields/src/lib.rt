@@ -1,4 +1,6 @@
 // Phones one behind the other in memory, as a saved record has them: written from a list, and read into one.
+#![tactic(auto)]
+
 ghost use Rattle.std.specs.Prelude.{◌≡◌, ◌+◌, ◌≤◌, ◌<◌, length};
 ghost use Rattle.arrays.specs.Arrays.{put};
 ghost use Rattle.phones.specs.Phones.{phones_of};

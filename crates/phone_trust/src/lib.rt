@@ -1,4 +1,6 @@
 // Who is paired, who is validated (pairing.rs, phone_trust.rs).
+#![tactic(auto)]
+
 ghost use Rattle.std.specs.Prelude.{◌≡◌};
 ghost use Rattle.phones.specs.Ids.{contains};
 ghost use Rattle.saved_record.specs.Store.{cars_of};

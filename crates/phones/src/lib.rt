@@ -1,6 +1,8 @@
 // Phone ids of at most 32 bytes, and the list of at most 32 of them, packed: the ids end to end, their lengths beside them.
 // What stands past a length or a count is not looked at, and what would run past an array is cut at its end. A list that a
 // function makes is canonical: zeros past the last id and past the last length.
+#![tactic(auto)]
+
 ghost use Rattle.std.specs.Prelude.{◌≡◌, [], min, ◌<◌, length, take};
 ghost use Rattle.arrays.specs.Arrays.{same_bytes};
 ghost use Rattle.phones.specs.Ids.{any_in, pushed};

@@ -1,4 +1,6 @@
 // What the policy tells: identity, approval, locks, reasons (can.rs, can_access.rs).
+#![tactic(auto)]
+
 ghost use Rattle.std.specs.Prelude.{◌≡◌};
 ghost use Rattle.policy.specs.Policy.{fingerprint_confirmed, identified_car, is_identified, dev_lock, dev_unlocked, approved_car, allows_read_write, is_read_only, is_fd_bus, is_bus_read_only, approval_of, approval_reason, reason};
 

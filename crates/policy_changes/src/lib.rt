@@ -1,4 +1,6 @@
 // A policy with one part changed, what is raised for it, and the relock count (can.rs, can_probe.rs).
+#![tactic(auto)]
+
 ghost use Rattle.std.specs.Prelude.{◌≡◌};
 ghost use Rattle.policy_changes.specs.Changes.{with_access, with_buses, with_identity};
 ghost use Rattle.policy_changes.specs.Changes as Changes;

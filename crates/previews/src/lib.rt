@@ -1,5 +1,7 @@
 // Which phones would go (02, W-203): each preview runs its operation on a copy of the lists, and tells what it would answer and
 // leave. The gate is kept and nothing is raised. Each promise is an equation with `step` of definition/specs/Gate.antt.
+#![tactic(auto)]
+
 ghost use Rattle.std.specs.Prelude.{◌≡◌};
 ghost use Rattle.answers.specs.Query.{preview_remove_paired_phone, preview_forget_phone_validation, preview_clear_paired_phones, preview_prune_phone_validations, preview_approve_can_read_write};
 ghost use Rattle.definition.specs.Gate.{ask, answered, step};

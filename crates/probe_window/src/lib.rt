@@ -1,4 +1,6 @@
 // The receive marks and the probe window (can_probe.rs).
+#![tactic(auto)]
+
 ghost use Rattle.std.specs.Prelude.{◌≡◌, ◌&&◌, not, take, min};
 ghost use Rattle.arrays.specs.Arrays.{padded};
 ghost use Rattle.frames.specs.Frames.{is_entry};

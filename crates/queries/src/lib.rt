@@ -1,5 +1,7 @@
 // What the gate tells: one function for each query. A query changes nothing, raises nothing, and gets 25 first. Each promise
 // is an equation with `step` of the gate's definition.
+#![tactic(auto)]
+
 ghost use Rattle.std.specs.Prelude.{◌≡◌};
 ghost use Rattle.state.specs.Replies.{yes_no};
 ghost use Rattle.state.specs.View.{view};

@@ -1,4 +1,6 @@
 // The range of a lent gate: out of it every call answers 25.
+#![tactic(auto)]
+
 ghost use Rattle.std.specs.Prelude.{◌≡◌, true, not, cond, ◌&&◌};
 ghost use Rattle.saved_record.specs.Steps.{twice_at};
 ghost use Rattle.state.specs.View.{car_in_range, store_in_range, view};

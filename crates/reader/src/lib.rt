@@ -1,5 +1,7 @@
 // A reader over a lent record and a position. The work is done by `field_at`, on a plain slice and a number; the
 // functions over the struct take it apart and put it together. `read_field` is for callers that hold no reader.
+#![tactic(auto)]
+
 ghost use Rattle.std.specs.Prelude.{◌≡◌};
 ghost use Rattle.reader.specs.Reader.{field_at};
 

@@ -1,6 +1,8 @@
 // Reads a script on standard input, plays it on the host's gate and prints what each line gives; with the argument `--state` also
 // the gate's state after each call. What is printed of a line is `replay_player::play` of it. What a program reads and writes is open
 // to a contract; `run` and `main` give nothing back.
+#![tactic(auto)]
+
 ghost use Rattle.std.specs.Prelude.{◌≡◌, ◌≤◌, true, length};
 ghost use Rattle.replay_page.specs.Page.{page};
 ghost use Rattle.replay_played.specs.Played.{most_read, line_room};

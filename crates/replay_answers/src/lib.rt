@@ -1,4 +1,6 @@
 // The answers of queries that hold more than an answer. Nothing stands behind a refusal or none, but for previews.
+#![tactic(auto)]
+
 ghost use Rattle.std.specs.Prelude.{◌≡◌, [], ◌<◌, get_or};
 ghost use Rattle.replay_page.specs.Page.{page};
 ghost use Rattle.replay_lines.specs.Table.{words};

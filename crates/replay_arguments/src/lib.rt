@@ -1,4 +1,6 @@
 // What the arguments of `replay` ask for.
+#![tactic(auto)]
+
 ghost use Rattle.std.specs.Prelude.{◌≡◌};
 ghost use Rattle.replay_arguments.specs.Arguments.{asked_by};
 

@@ -1,4 +1,6 @@
 // Makes the call of the gate that a line's name and items say, one arm for each call. specs/Calls.antt says which it is.
+#![tactic(auto)]
+
 ghost use Rattle.std.specs.Prelude.{◌≡◌};
 ghost use Rattle.definition.specs.Gate.{given, step};
 ghost use Rattle.replay_items.specs.Bytes.{lent_bytes};

@@ -1,4 +1,6 @@
 // The paired phones, and the cars of a store with the phones validated for each.
+#![tactic(auto)]
+
 ghost use Rattle.std.specs.Prelude.{◌≡◌};
 ghost use Rattle.phones.specs.Phones.{phones_of};
 ghost use Rattle.saved_record.specs.Store.{car_of, cars_of};

@@ -1,5 +1,7 @@
 // A saved record as another version, as a line of a script asks for it: what `converter` answers, with the room and the lent bytes as
 // they are left.
+#![tactic(auto)]
+
 ghost use Rattle.std.specs.Prelude.{◌≡◌, [], ◌≤◌, length, get_or};
 ghost use Rattle.converter.specs.Convert.{converted};
 ghost use Rattle.replay_lines.specs.Lent.{most_lent};

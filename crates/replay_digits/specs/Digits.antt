@@ -1,9 +1,9 @@
 -- What digits and text say: numbers and bytes.
 use Rattle.std.specs.Prelude.{Bool, true, false, cond, List, [], ◌∷◌, ℕ, ◌+◌, ◌*◌, ◌%◌, eqb, ltb, leb, length, drop}
 use Rattle.arrays.specs.Arrays.{put}
-use Rattle.hex.specs.Hex.{value_of}
-use Rattle.hex.specs.declared.HexValue.{HexValue}
-use Rattle.hex.specs.declared.HexValue.TheVariants.{Digit, NotHex}
+use Rattle.hexadecimal.specs.Hex.{value_of}
+use Rattle.hexadecimal.specs.declared.HexValue.{HexValue}
+use Rattle.hexadecimal.specs.declared.HexValue.TheVariants.{Digit, NotHex}
 use Rattle.replay_digits.specs.declared.Laid.{Laid}
 use Rattle.replay_digits.specs.declared.Laid.TheVariants.{To, NoBytes}
 use Rattle.replay_digits.specs.declared.Number.{Number}

@@ -1,9 +1,11 @@
 // What digits and text say: numbers and bytes.
+#![tactic(auto)]
+
 ghost use Rattle.std.specs.Prelude.{◌≡◌, true, ◌+◌, ◌/◌, ◌<◌, ◌≤◌, length};
 ghost use Rattle.arrays.specs.Arrays.{put};
 ghost use Rattle.replay_digits.specs.Digits.{digit_of, number_in, is_hex, pairs_of, is_text, is_bytes, as_bytes, laid_to, lay_bytes};
 
-use hex::HexValue;
+use hexadecimal::HexValue;
 
 #[derive(Drop)]
 pub enum Number {
@@ -29,7 +31,7 @@ pub enum Laid {
 fn digit(b: u8) -> u8
     ensures { result ≡ digit_of b }
 {
-    let v = hex::hex_value(b);
+    let v = hexadecimal::hex_value(b);
     match v {
         HexValue::Digit(d) => d,
         HexValue::NotHex => 16,

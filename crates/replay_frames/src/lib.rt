@@ -1,4 +1,6 @@
 // Frames that were decided, and the records of the host's list (02, W-204).
+#![tactic(auto)]
+
 ghost use Rattle.std.specs.Prelude.{◌≡◌, ◌<◌};
 ghost use Rattle.replay_page.specs.Page.{page, text};
 ghost use Rattle.replay_frames.specs.Frames.{class_part, bus_id, frame, decided, decided_at, decided_to, report, waiting, waiting_at, waiting_to, lent_list};

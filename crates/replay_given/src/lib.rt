@@ -1,5 +1,7 @@
 // What a line gives: what the host holds afterwards, and the text, as specs/Turns.antt has them by the gate's one definition, `step`. The
 // calls on waiting frames are made here, and the lines about the host's list (02, W-204).
+#![tactic(auto)]
+
 ghost use Rattle.std.specs.Prelude.{◌≡◌, List};
 ghost use Rattle.definition.specs.Gate.{given, send_can_frame, serve_can_frames};
 ghost use Rattle.waiting_list.specs.declared.Waiting.{Waiting};

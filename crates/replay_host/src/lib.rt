@@ -1,5 +1,7 @@
 // What the host of a script holds from line to line: its gate, and the list that it lends to the calls on waiting frames (02, W-204).
 // The two calls are made here on what is lent of that list, by value.
+#![tactic(auto)]
+
 ghost use Rattle.std.specs.Prelude.{◌≡◌, ◌++◌, take, drop};
 ghost use Rattle.replay_host.specs.Host.{never_set, first_host, with_gate, with_counters, with_list, with_lent, owner_of, record_of, with_record, Sends, Serves};
 

@@ -1,5 +1,7 @@
 // The items of a script's line, read all at once: each has its value, and whether it stands there once and is of its form.
 // `takes` then says which of them a name wants. Bytes are laid down in lent memory, one value behind the other.
+#![tactic(auto)]
+
 pub mod bytes;
 pub mod takes;
 pub mod values;

@@ -1,5 +1,7 @@
 // The lines that a replay prints. Each `put_` function writes over `out` from `at` on and answers the place after what it
 // wrote; where something does not fit, a place past the end.
+#![tactic(auto)]
+
 pub mod answer;
 pub mod fields;
 pub mod key;

@@ -1,5 +1,7 @@
 // Items that may stand several times: the methods of a new gate, the frames of a probe. Each value has three parts with
 // slashes between them.
+#![tactic(auto)]
+
 ghost use Rattle.std.specs.Prelude.{◌≡◌, ◌<◌};
 ghost use Rattle.ascii.specs.Ascii.{ascii};
 ghost use Rattle.replay_script.specs.Places.{values_of};

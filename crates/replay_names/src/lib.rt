@@ -1,5 +1,7 @@
 // The names of a script's lines and the items that each wants, one row to a name. specs/Names.antt has the same rows as a list,
 // and says what the words behind a name are.
+#![tactic(auto)]
+
 ghost use Rattle.std.specs.Prelude.{◌≡◌, false, ltb, length, get_or};
 ghost use Rattle.word_table.specs.Words.{lines_of, rest_of, place_in};
 ghost use Rattle.replay_names.specs.Names as Names;

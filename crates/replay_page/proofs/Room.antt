@@ -10,8 +10,8 @@ use lib.ListN.{length, take, get_or, length-take}
 use Rattle.arrays.proofs.Laws.{both, put_length}
 use Rattle.ascii.specs.Ascii.{ascii}
 use Rattle.decimal.specs.Decimal.{decimal_of}
-use Rattle.hex.specs.Hex.{digit, hex_of}
-use Rattle.hex.proofs.Laws.{hex_length}
+use Rattle.hexadecimal.specs.Hex.{digit, hex_of}
+use Rattle.hexadecimal.proofs.Laws.{hex_length}
 use Rattle.replay_page.specs.Page.{Page, text, number, bytes, yes_no, comma, item, flag, word, known, digits, digit_from, hexadecimal}
 use Rattle.replay_page.specs.Room.{Within}
 use Rattle.replay_page.proofs.Laws.{digits_fit}

@@ -3,7 +3,7 @@ use Rattle.std.specs.Prelude.{Bool, cond, List, [], ◌∷◌, ℕ, ◌+◌, ◌
 use Rattle.arrays.specs.Arrays.{put}
 use Rattle.ascii.specs.Ascii.{ascii}
 use Rattle.decimal.specs.Decimal.{decimal_of}
-use Rattle.hex.specs.Hex.{digit, hex_of}
+use Rattle.hexadecimal.specs.Hex.{digit, hex_of}
 
 -- the memory, and the place after what was laid down
 pub record Page : Type 0 where

@@ -1,5 +1,7 @@
 // Laying down text in lent memory. Each `put_` function writes over `out` from `at` on and answers the place
 // after what it wrote; where something does not fit, a place past the end.
+#![tactic(auto)]
+
 ghost use Rattle.std.specs.Prelude.{◌≡◌, ◌-◌, ◌≤◌, ◌<◌, length, take, drop};
 ghost use Rattle.replay_page.specs.Page.{page, text, number, bytes, yes_no, comma, item, flag, known, digits, digit_from, high_digits, hexadecimal};
 
@@ -43,7 +45,7 @@ pub fn put_bytes(out: &mut [u8], at: usize, src: &[u8]) -> usize
     if (out.len() - at) / 2 < src.len() {
         return out.len() + 1;
     }
-    hex::put_hex(out, at, src);
+    hexadecimal::put_hex(out, at, src);
     at + 2 * src.len()
 }
 
@@ -117,7 +119,7 @@ fn put_digit(out: &mut [u8], at: usize, n: u32, unit: u32) -> usize
     if n < unit {
         return at;
     }
-    let d = hex::hex_digit((n / unit % 16) as u8);
+    let d = hexadecimal::hex_digit((n / unit % 16) as u8);
     put_text(out, at, &[d])
 }
 
@@ -139,6 +141,6 @@ pub fn put_hexadecimal(out: &mut [u8], at: usize, n: u32) -> usize
     let k = put_digit(out, k, n, 0x1000);
     let k = put_digit(out, k, n, 0x100);
     let k = put_digit(out, k, n, 0x10);
-    let d = hex::hex_digit((n % 16) as u8);
+    let d = hexadecimal::hex_digit((n % 16) as u8);
     put_text(out, k, &[d])
 }

@@ -1,5 +1,7 @@
 // What a line of a script gives, as specs/Played.antt has it by the gate's one definition, `step`: the text around a call, of a line
 // that is none, and the memory in which every line fits.
+#![tactic(auto)]
+
 ghost use Rattle.std.specs.Prelude.{◌≡◌, ◌≤◌, length};
 ghost use Rattle.replay_page.specs.Page.{page, text};
 ghost use Rattle.replay_played.specs.Played.{begun, error_of, line_room, passed_over, too_long};

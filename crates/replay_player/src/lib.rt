@@ -1,5 +1,7 @@
 // Plays one line of a script on the host's gate: reads it, makes its call and lays down what it gives. That is `played` of
 // replay_played/specs/Played.antt, which speaks of the calls by the gate's one definition, `step`.
+#![tactic(auto)]
+
 ghost use Rattle.std.specs.Prelude.{◌≡◌, ◌≤◌, length};
 ghost use Rattle.arrays.specs.Arrays.{put};
 ghost use Rattle.replay_items.specs.Bytes.{lent_bytes, bytes_of, joined};

@@ -1,4 +1,6 @@
 // Asks the query that a line names, one arm for each. `replay_calls` says which query it is, specs/Shown.antt how its reply is shown.
+#![tactic(auto)]
+
 ghost use Rattle.std.specs.Prelude.{◌≡◌};
 ghost use Rattle.answers.specs.Query.{plain};
 ghost use Rattle.definition.specs.Gate.{ask, answered, step};

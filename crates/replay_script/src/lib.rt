@@ -1,4 +1,6 @@
 // Reading a line of a script: the name of a call, then items `key=value`, each behind one space.
+#![tactic(auto)]
+
 ghost use Rattle.std.specs.Prelude.{◌≡◌, ◌+◌, length, drop};
 ghost use Rattle.replay_script.specs.Words.{items_of};
 ghost use Rattle.word_table.specs.Words.{before};

@@ -1,4 +1,6 @@
 // Signals.
+#![tactic(auto)]
+
 ghost use Rattle.std.specs.Prelude.{◌≡◌};
 ghost use Rattle.replay_page.specs.Page.{page};
 ghost use Rattle.replay_signals.specs.Signals.{next, raised, read_only, approval, validations, running, challenge, ended, listed, signals};

@@ -1,4 +1,6 @@
 // The whole state of a gate.
+#![tactic(auto)]
+
 ghost use Rattle.std.specs.Prelude.{◌≡◌, ◌<◌};
 ghost use Rattle.replay_page.specs.Page.{page};
 ghost use Rattle.replay_state.specs.Whole.{settings, method_at, methods_to, identity, access, buses, policy, peer, front, save, queue, gate};

@@ -1,5 +1,7 @@
 // Makes the call that a line says on the host's gate, and lays down what it gives: `ran` of replay_given/specs/Turns.antt, which speaks of
 // the calls by the gate's one definition, `step`.
+#![tactic(auto)]
+
 ghost use Rattle.std.specs.Prelude.{◌≡◌, ◌≤◌, length};
 ghost use Rattle.definition.specs.Gate.{on_save, take_phone_validations_save};
 ghost use Rattle.replay_items.specs.Bytes.{lent_bytes};

@@ -1,4 +1,6 @@
 // The values of items.
+#![tactic(auto)]
+
 ghost use Rattle.std.specs.Prelude.{◌≡◌, length};
 ghost use Rattle.ascii.specs.Ascii.{ascii};
 ghost use Rattle.replay_script.specs.Places.{item_of};

@@ -1,4 +1,6 @@
 // The store of validated phones as a saved record says it: restore_phone_validations (phone_trust.rs).
+#![tactic(auto)]
+
 ghost use Rattle.std.specs.Prelude.{◌≡◌};
 ghost use Rattle.state.specs.View.{listed_in};
 ghost use Rattle.validations.specs.Store.{restore};

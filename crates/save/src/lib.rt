@@ -1,4 +1,6 @@
 // A save of the record while phones change (02, W-209).
+#![tactic(auto)]
+
 ghost use Rattle.std.specs.Prelude.{◌≡◌, ◌-◌, ◌≤◌, length, take};
 ghost use Rattle.arrays.specs.Arrays.{put};
 ghost use Rattle.saved_record.specs.Store.{cars_of};

@@ -1,4 +1,6 @@
 // The store of validated phones by car, and its saved record.
+#![tactic(auto)]
+
 ghost use Rattle.std.specs.Prelude.{◌≡◌, ◌&&◌, [], min};
 ghost use Rattle.arrays.specs.Arrays.{same_bytes};
 ghost use Rattle.saved_record.specs.SavedRecord.{no_record, twice};

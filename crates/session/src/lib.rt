@@ -1,4 +1,6 @@
 // What a session shows, and its ends (validation.rs).
+#![tactic(auto)]
+
 ghost use Rattle.std.specs.Prelude.{◌≡◌, cond, min};
 ghost use Rattle.state.specs.declared.Status.TheVariants.{Cancelled, TimedOut};
 ghost use Rattle.session.specs.declared.Lapse.TheVariants.{Stays, Ends};

@@ -1,4 +1,6 @@
 // The times of a session and its number (validation.rs).
+#![tactic(auto)]
+
 ghost use Rattle.std.specs.Prelude.{◌≡◌};
 ghost use Rattle.session_times.specs.Times.{saturating_add, seconds_to, next_number};
 

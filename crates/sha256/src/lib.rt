@@ -1,4 +1,6 @@
 // SHA-256 (FIPS 180-4). The definition is specs/Sha256.antt, that of a message in pieces specs/Pieces.antt.
+#![tactic(auto)]
+
 ghost use Rattle.std.specs.Prelude.{◌≡◌, ◌*◌, ◌/◌, ◌%◌, ◌<◌, length};
 ghost use Rattle.arrays.specs.Arrays.{padded};
 ghost use Rattle.sha256.specs.Pieces.{opened, absorbed, closed};

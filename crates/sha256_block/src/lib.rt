@@ -1,4 +1,6 @@
 // FIPS 180-4, 6.2.2: the hash value after one block. The definition is specs/Block.antt.
+#![tactic(auto)]
+
 ghost use Rattle.std.specs.Prelude.{◌≡◌, ◌+◌, ◌-◌, ◌*◌, ◌<◌, ◌≤◌, length, slice_index, slice_index_or, slice_set};
 ghost use Rattle.sha256_block.specs.Block.{◌⊞◌, σ₀, σ₁, M, W, round, rounds, plus};
 

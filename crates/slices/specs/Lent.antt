@@ -102,20 +102,20 @@ module _ (r : Rows) where
   as_long ys zs ln is = is.1.0.1 ∙ sym ln
 
   abbrev LoadE : Ended
-  LoadE = Ld.ended r.D r.L r.cp r.pl r.s r.big r.sized r.s-lit r.d r.n r.n-lit r.some-lit
+  LoadE = Ld.ended r.D r.L r.cp r.pl r.s r.big r.sized r.s_lit r.d r.n r.n_lit r.some_lit
 
   abbrev StoreE : Ended
-  StoreE = St.ended r.D r.L r.pl r.s r.big r.sized r.s-lit r.d r.n r.n-lit r.quiet
+  StoreE = St.ended r.D r.L r.pl r.s r.big r.sized r.s_lit r.d r.n r.n_lit r.quiet
 
   -- the contracts
   module _ {M : Type 1} {𝓤 : Ura M} (𝓛 : Logic 𝓤) where
     open 𝓛 use {H}
 
     abbrev LoadC : Clauses 𝓤 LoadE
-    LoadC = Ld.clauses r.D r.L r.cp r.pl r.s r.big r.sized r.s-lit r.d r.n r.n-lit r.some-lit 𝓤
+    LoadC = Ld.clauses r.D r.L r.cp r.pl r.s r.big r.sized r.s_lit r.d r.n r.n_lit r.some_lit 𝓤
 
     abbrev StoreC : Clauses 𝓤 StoreE
-    StoreC = St.clauses r.D r.L r.pl r.s r.big r.sized r.s-lit r.d r.n r.n-lit r.quiet 𝓤
+    StoreC = St.clauses r.D r.L r.pl r.s r.big r.sized r.s_lit r.d r.n r.n_lit r.quiet 𝓤
 
     abbrev pub Loads : Contract 𝓤
     Loads = triple_of 𝓛 LoadE.signature (closing 𝓛 LoadE LoadC)
@@ -125,11 +125,11 @@ module _ (r : Rows) where
 
     -- that `load` and `store` meet them
     module _ (𝓣 : Tables 𝓤 H) where
-      pub load_meets : Triple 𝓤 (WpFn 𝓤 H 𝓣.C 𝓣.Λ (Ld.fn r.D r.L r.cp r.pl r.s r.big r.sized r.s-lit r.d r.n r.n-lit r.some-lit)) Loads
-      load_meets = Ld.meets r.D r.L r.cp r.pl r.s r.big r.sized r.s-lit r.d r.n r.n-lit r.some-lit 𝓛 𝓣
+      pub load_meets : Triple 𝓤 (WpFn 𝓤 H 𝓣.C 𝓣.Λ (Ld.fn r.D r.L r.cp r.pl r.s r.big r.sized r.s_lit r.d r.n r.n_lit r.some_lit)) Loads
+      load_meets = Ld.meets r.D r.L r.cp r.pl r.s r.big r.sized r.s_lit r.d r.n r.n_lit r.some_lit 𝓛 𝓣
 
-      pub store_meets : Triple 𝓤 (WpFn 𝓤 H 𝓣.C 𝓣.Λ (St.fn r.D r.L r.pl r.s r.big r.sized r.s-lit r.d r.n r.n-lit r.quiet)) Stores
-      store_meets = St.meets r.D r.L r.pl r.s r.big r.sized r.s-lit r.d r.n r.n-lit r.quiet 𝓛 (λ κs xs f. r.silent xs f) 𝓣
+      pub store_meets : Triple 𝓤 (WpFn 𝓤 H 𝓣.C 𝓣.Λ (St.fn r.D r.L r.pl r.s r.big r.sized r.s_lit r.d r.n r.n_lit r.quiet)) Stores
+      store_meets = St.meets r.D r.L r.pl r.s r.big r.sized r.s_lit r.d r.n r.n_lit r.quiet 𝓛 (λ κs xs f. r.silent xs f) 𝓣
 
   module _ (ys : List X) (b o : ℕ) where
     -- the slice under the name δ, and its machine value

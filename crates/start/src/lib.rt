@@ -1,4 +1,6 @@
 // start_validation, on a core in range (validation.rs).
+#![tactic(auto)]
+
 ghost use Rattle.std.specs.Prelude.{◌≡◌, ◌≤◌, length};
 ghost use Rattle.validation.specs.Calls.{new_session, challenge_for};
 ghost use Rattle.validation.specs.Calls as Calls;

@@ -1,4 +1,6 @@
 // What a start comes to, on a core in range (validation.rs): the checks in their order.
+#![tactic(auto)]
+
 ghost use Rattle.std.specs.Prelude.{◌≡◌, not, ◌&&◌, ◌≤◌, length};
 ghost use Rattle.state.specs.Running.{in_progress};
 ghost use Rattle.session.specs.Session.{is_of};

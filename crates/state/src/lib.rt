@@ -1,5 +1,7 @@
 // The state of the gate, by value: the source's statics as one struct. The phone lists and the digits of the drawn code stand
 // beside a small `Core`. No operation on a core is given them: it is told verdicts on them, and says by a `Mark` where digits go.
+#![tactic(auto)]
+
 pub mod parts;
 pub mod replies;
 pub mod running;

@@ -1,4 +1,6 @@
 // submit_validation_code, on a core in range (validation.rs).
+#![tactic(auto)]
+
 ghost use Rattle.std.specs.Prelude.{◌≡◌};
 ghost use Rattle.validation.specs.Calls.{submit};
 ghost use Rattle.validation.specs.Calls as Calls;

@@ -1,4 +1,6 @@
 // A typed code: whether it is text, and whether it is right once White_Space is trimmed and separators between digits are dropped.
+#![tactic(auto)]
+
 ghost use Rattle.std.specs.Prelude.{◌≡◌, min, ◌<◌, take};
 ghost use Rattle.arrays.specs.Arrays.{same_bytes};
 ghost use Rattle.text.specs.Text.{white, is_text, is_digit, is_separator, begins_digit, is_dropped, ungrouped, right};

@@ -11,8 +11,8 @@ use lib.ListN.{length, drop, get_or, set, length-append, length-drop, drop_of_le
 use lib.Seq.{drop-cons}
 use Rattle.arrays.specs.Arrays.{padded}
 use Rattle.arrays.proofs.Laws.{padded_push}
-use Rattle.hex.specs.Hex.{value_of}
-use Rattle.hex.specs.declared.HexValue.TheVariants.{Digit, NotHex}
+use Rattle.hexadecimal.specs.Hex.{value_of}
+use Rattle.hexadecimal.specs.declared.HexValue.TheVariants.{Digit, NotHex}
 use Rattle.text_cases.specs.Cases.{line_length, worth, nibble_of, byte_at, pairs_in, bytes_of}
 
 -- ---- lines

@@ -1,9 +1,9 @@
 -- The cases in the program's input: lines, the bytes that a line of digits says, and their verdict.
 use Rattle.std.specs.Prelude.{cond, List, [], ◌∷◌, ◌++◌, ℕ, zero, suc, ◌+◌, ◌*◌, ◌/◌, eqb, ltb, get_or}
 use Rattle.ascii.specs.Ascii.{ascii}
-use Rattle.hex.specs.Hex.{value_of}
-use Rattle.hex.specs.declared.HexValue.{HexValue}
-use Rattle.hex.specs.declared.HexValue.TheVariants.{Digit, NotHex}
+use Rattle.hexadecimal.specs.Hex.{value_of}
+use Rattle.hexadecimal.specs.declared.HexValue.{HexValue}
+use Rattle.hexadecimal.specs.declared.HexValue.TheVariants.{Digit, NotHex}
 use Rattle.text.specs.Text.{is_text, right}
 use Rattle.text_cases.specs.declared.Verdict.{Verdict}
 use Rattle.text_cases.specs.declared.Verdict.TheVariants.{NoText, Wrong, Right}

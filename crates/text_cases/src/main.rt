@@ -2,11 +2,13 @@
 // 1234: no text, wrong or right. Its input has the edges of RFC 3629's grammar and of White_Space, and digits in groups. What a
 // program reads and writes is open to a contract: `print_verdict`, `case`, `cases` and `main` give nothing back, and the file
 // `stdout` has what they write.
+#![tactic(auto)]
+
 ghost use Rattle.std.specs.Prelude.{◌≡◌, ◌+◌, length, drop};
 ghost use Rattle.arrays.specs.Arrays.{padded};
 ghost use Rattle.text_cases.specs.Cases.{line_length, nibble_of, pairs_in, bytes_of, verdict_of};
 
-use hex::HexValue;
+use hexadecimal::HexValue;
 use libc::{STDIN_FILENO, STDOUT_FILENO};
 
 #[derive(Drop)]
@@ -47,7 +49,7 @@ fn print_verdict(v: Verdict) {
 fn nibble(b: u8) -> u8
     ensures { result ≡ nibble_of b }
 {
-    let v = hex::hex_value(b);
+    let v = hexadecimal::hex_value(b);
     match v {
         HexValue::Digit(d) => d,
         HexValue::NotHex => 0,

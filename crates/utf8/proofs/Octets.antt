@@ -136,15 +136,15 @@ begins4_true a b e =
 is_begins3 : (a b : ℕ) → Begins3 a b → begins3 a b ≡ true
 unfolding begins3
 is_begins3 a b (inl p) = rw (eq-eqb a 0xE0 (omega arith), inside 0xA0 0xBF b p.least p.most)
-is_begins3 a b (inr (inl p)) = rw (inside 0xE1 0xEC a p.first p.last, inside 0x80 0xBF b p.least p.most) (simp Bool.or_true)
-is_begins3 a b (inr (inr (inl p))) = rw (eq-eqb a 0xED (omega arith), inside 0x80 0x9F b p.least p.most) (simp Bool.or_true)
-is_begins3 a b (inr (inr (inr p))) = rw (inside 0xEE 0xEF a p.first p.last, inside 0x80 0xBF b p.least p.most) (simp Bool.or_true)
+is_begins3 a b (inr (inl p)) = rw (inside 0xE1 0xEC a p.first p.last, inside 0x80 0xBF b p.least p.most) (simp Bool.or-true)
+is_begins3 a b (inr (inr (inl p))) = rw (eq-eqb a 0xED (omega arith), inside 0x80 0x9F b p.least p.most) (simp Bool.or-true)
+is_begins3 a b (inr (inr (inr p))) = rw (inside 0xEE 0xEF a p.first p.last, inside 0x80 0xBF b p.least p.most) (simp Bool.or-true)
 
 is_begins4 : (a b : ℕ) → Begins4 a b → begins4 a b ≡ true
 unfolding begins4
 is_begins4 a b (inl p) = rw (eq-eqb a 0xF0 (omega arith), inside 0x90 0xBF b p.least p.most)
-is_begins4 a b (inr (inl p)) = rw (inside 0xF1 0xF3 a p.first p.last, inside 0x80 0xBF b p.least p.most) (simp Bool.or_true)
-is_begins4 a b (inr (inr p)) = rw (eq-eqb a 0xF4 (omega arith), inside 0x80 0x8F b p.least p.most) (simp Bool.or_true)
+is_begins4 a b (inr (inl p)) = rw (inside 0xF1 0xF3 a p.first p.last, inside 0x80 0xBF b p.least p.most) (simp Bool.or-true)
+is_begins4 a b (inr (inr p)) = rw (eq-eqb a 0xF4 (omega arith), inside 0x80 0x8F b p.least p.most) (simp Bool.or-true)
 
 -- ---- from the octets to the number and back
 

@@ -1,7 +1,9 @@
 // UTF-8 (RFC 3629): the character that a string begins with.
+#![tactic(auto)]
+
 ghost use Rattle.std.specs.Prelude.{◌≡◌};
 ghost use Rattle.utf8.specs.Utf8 as Utf8;
-ghost use Rattle.utf8.specs.Utf8.{utf8-tail, utf8-2, utf8-3, utf8-4};
+ghost use Rattle.utf8.specs.Utf8.{utf8_tail, utf8_2, utf8_3, utf8_4};
 ghost use Rattle.utf8.specs.First.{first_char};
 
 // The character that a string begins with: its code point and its number of bytes.
@@ -29,14 +31,14 @@ pub fn within(lo: u32, hi: u32, x: u32) -> bool
 
 // UTF8-tail.
 fn is_tail(a: u32) -> bool
-    ensures { result ≡ utf8-tail a }
+    ensures { result ≡ utf8_tail a }
 {
     within(0x80, 0xBF, a)
 }
 
 // UTF8-2.
 fn is_two(a: u32, b: u32) -> bool
-    ensures { result ≡ utf8-2 a b }
+    ensures { result ≡ utf8_2 a b }
 {
     if within(0xC2, 0xDF, a) {
         return is_tail(b);
@@ -65,7 +67,7 @@ fn begins_three(a: u32, b: u32) -> bool
 
 // UTF8-3.
 fn is_three(a: u32, b: u32, c: u32) -> bool
-    ensures { result ≡ utf8-3 a b c }
+    ensures { result ≡ utf8_3 a b c }
 {
     if begins_three(a, b) {
         return is_tail(c);
@@ -91,7 +93,7 @@ fn begins_four(a: u32, b: u32) -> bool
 
 // UTF8-4.
 fn is_four(a: u32, b: u32, c: u32, d: u32) -> bool
-    ensures { result ≡ utf8-4 a b c d }
+    ensures { result ≡ utf8_4 a b c d }
 {
     if begins_four(a, b) {
         if is_tail(c) {

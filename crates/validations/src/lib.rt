@@ -1,5 +1,7 @@
 // The store of validated phones: up to four cars, each with its list (phone_trust.rs). A call that changes it writes it anew,
 // in canonical form.
+#![tactic(auto)]
+
 ghost use Rattle.std.specs.Prelude.{◌≡◌, not, ◌&&◌, [], ltb, length, drop};
 ghost use Rattle.phones.specs.Ids.{contains, any_in};
 ghost use Rattle.phones.specs.Phones.{id_bytes, phones_of};

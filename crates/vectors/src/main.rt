@@ -2,6 +2,8 @@
 // lengths: a line each, with the digest in hexadecimal. The file `stdout` was made with another implementation. What a
 // program writes is open to a contract: `digest`, `line`, `message`, `car` and `main` give nothing back, and `stdout` has
 // what they write.
+#![tactic(auto)]
+
 ghost use Rattle.std.specs.Prelude.{◌≡◌, ◌+◌, ◌≤◌, length, replicate};
 ghost use Rattle.sha256.specs.Sha256 as Sha;
 ghost use Rattle.vectors.specs.Counted.{counted};

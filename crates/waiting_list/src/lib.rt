@@ -1,5 +1,7 @@
 // Frames that wait to be sent, in a lent list of sixteen records in arrival order: which is next, the list once it is taken, and
 // the list with one more. `load` and `store` alone see the lent list; everything else takes and returns the sixteen by value.
+#![tactic(auto)]
+
 ghost use Rattle.std.specs.Prelude.{◌≡◌, min, ◌-◌, eqb, length};
 ghost use Rattle.waiting_list.specs.Queue.{bus_of, under_bus, waiting_of, oldest_on, next_place, record_at, closed_up, with_one};
 

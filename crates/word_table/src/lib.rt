@@ -1,4 +1,6 @@
 // A table as one text, a row to a line, in each row words with single spaces between them; the first is the row's name.
+#![tactic(auto)]
+
 ghost use Rattle.std.specs.Prelude.{◌≡◌, [], ◌+◌, ◌-◌, ◌≤◌, length, take, drop, get_or};
 ghost use Rattle.word_table.specs.Words.{before, name_of, lines_of, place_in, RowAt};
 ghost use Rattle.arrays.specs.Arrays.{same_bytes};

@@ -11,7 +11,7 @@ no-car-requires c κs = tt
 
 returns-2 : tie.Need-returns-2
 unfolding known_or_none
-returns-2 c = rw (c.before.if1.false, ← c.no-car.ensures)
+returns-2 c = rw (c.before.if1.false, ← c.no_car_lem.ensures)
 
 pub known-or-none-spec : {M : Type 1} → statement M
 known-or-none-spec = tie.close (tie.spec returns no-car-requires returns-2)

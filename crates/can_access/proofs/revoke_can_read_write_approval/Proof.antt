@@ -22,7 +22,7 @@ reply-requires c κs = tt
 
 returns : tie.Need-returns
 unfolding revoke_approval
-returns c = rw (← c.before.before.before.before.before.before.no-car.ensures, ← c.before.before.before.before.with-access.ensures, ← c.before.before.before.is-can-read-only.ensures, ← c.before.before.approval-changed.ensures, ← c.before.with-policy.ensures, ← c.reply.ensures)
+returns c = rw (← c.before.before.before.before.before.before.no_car_lem.ensures, ← c.before.before.before.before.with-access.ensures, ← c.before.before.before.is-can-read-only.ensures, ← c.before.before.approval-changed.ensures, ← c.before.with-policy.ensures, ← c.reply.ensures)
 
 pub revoke-can-read-write-approval-spec : {M : Type 1} → statement M
 revoke-can-read-write-approval-spec =

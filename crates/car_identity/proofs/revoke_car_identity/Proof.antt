@@ -22,7 +22,7 @@ policy-changed-requires c κs = tt
 
 returns : tie.Need-returns
 unfolding revoke_platform
-returns c = rw (c.policy-changed.ensures, c.before.with-buses.ensures, c.before.before.before.with-identity.ensures, c.before.before.before.before.before.no-car.ensures, c.before.before.before.before.before.before.before.with-probe.ensures, c.before.before.before.before.before.before.before.before.relocked.ensures)
+returns c = rw (c.policy-changed.ensures, c.before.with-buses.ensures, c.before.before.before.with-identity.ensures, c.before.before.before.before.before.no_car_lem.ensures, c.before.before.before.before.before.before.before.with-probe.ensures, c.before.before.before.before.before.before.before.before.relocked.ensures)
 
 pub revoke-car-identity-spec : {M : Type 1} → statement M
 revoke-car-identity-spec =

@@ -2,8 +2,8 @@
 use Prim.Native.Nat.{◌+◌, ◌*◌}
 use native.Mathlib.Omega.{arith}
 use lib.ListN.{length}
-use Rattle.hex.specs.Hex.{hex_of}
-use Rattle.hex.proofs.Laws.{hex_length}
+use Rattle.hexadecimal.specs.Hex.{hex_of}
+use Rattle.hexadecimal.proofs.Laws.{hex_length}
 use Rattle.car_lines.proofs.Laws.{line_length_lem, wrote_line}
 use borrow.Author.Rules.{rules}
 use Rattle.car_lines.proofs.put_hex_line.Statement.{statement}

@@ -21,7 +21,7 @@ same-frame-requires c κs = search rules
 
 returns-3 : tie.Need-returns-3
 unfolding fits
-returns-3 c = let a = c.before.before.before.args in rw (le-leb _ _ c.before.before.if1.false, le-leb a.seen (a.sent + 50) (omega arith)) c.same-frame.ensures
+returns-3 c = let a = c.before.before.before.args in rw (le-leb _ _ c.before.before.if1.false, le-leb a.seen (a.sent + 50) (omega arith)) c.same_frame_lem.ensures
 
 pub is-fit-spec : {M : Type 1} → statement M
 is-fit-spec = tie.close (tie.spec returns returns-2 same-frame-requires returns-3)

@@ -14,7 +14,7 @@ no-car-requires c κs = tt
 
 returns-2 : tie.Need-returns-2
 unfolding identified_car
-returns-2 c = rw (← c.before.before.is-car-fingerprint-confirmed.ensures, c.before.if1.false, ← c.no-car.ensures)
+returns-2 c = rw (← c.before.before.is-car-fingerprint-confirmed.ensures, c.before.if1.false, ← c.no_car_lem.ensures)
 
 pub identified-car-spec : {M : Type 1} → statement M
 identified-car-spec =

@@ -2,8 +2,8 @@ use Prim.Native.Nat.{◌+◌}
 use native.Mathlib.Omega.{arith}
 use borrow.Author.Tests.{lt-ltb, le-ltb}
 use lib.ListN.{length}
-use Rattle.hex.specs.Hex.{hex_of}
-use Rattle.hex.proofs.Laws.{hex_length}
+use Rattle.hexadecimal.specs.Hex.{hex_of}
+use Rattle.hexadecimal.proofs.Laws.{hex_length}
 use Rattle.replay_page.specs.Page.{text}
 use borrow.Author.Rules.{rules}
 use Rattle.replay_page.proofs.put_bytes.Statement.{statement}

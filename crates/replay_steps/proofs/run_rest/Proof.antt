@@ -30,7 +30,7 @@ returns-3 c =
 
 returns-4 : tie.Need-returns-4
 unfolding lent_bytes rest_line rest_lines other_lines
-returns-4 c = rw (c.before.before.before.before.match.keys4, ← c.before.before.before.before.before.lent.ensures) c.before.before.put-take.ensures
+returns-4 c = rw (c.before.before.before.before.match.keys4, ← c.before.before.before.before.before.lent.ensures) c.before.before.put_take.ensures
 
 returns-5 : tie.Need-returns-5
 returns-5 c =

@@ -1,6 +1,6 @@
 -- A code point below, between and above the ranges, on a single one, and in a range. Assumes nothing.
 use mathlib.Core.Logic.{⊎_elim}
-use mathlib.Core.Bool.{or_true}
+use mathlib.Core.Bool.{or-true}
 use native.Mathlib.Omega.{arith}
 use Rattle.utf8.specs.Utf8.{within}
 use Rattle.text.specs.Text.{white}
@@ -42,12 +42,12 @@ returns-6 c = rw (inside 9 13 c.before.before.before.args.c (omega arith) (omega
 returns-7 : tie.Need-returns-7
 unfolding white
 returns-7 c =
-    rw (inside 8192 8202 c.before.before.before.before.before.args.c (omega arith) (omega arith)) (simp or_true)
+    rw (inside 8192 8202 c.before.before.before.before.before.args.c (omega arith) (omega arith)) (simp or-true)
 
 returns-8 : tie.Need-returns-8
 unfolding white
 returns-8 c =
-    rw (inside 8232 8233 c.before.before.before.before.before.before.before.args.c (omega arith) (omega arith)) (simp or_true)
+    rw (inside 8232 8233 c.before.before.before.before.before.before.before.args.c (omega arith) (omega arith)) (simp or-true)
 
 pub is-white-spec : {M : Type 1} → statement M
 is-white-spec =

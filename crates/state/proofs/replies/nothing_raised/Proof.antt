@@ -11,7 +11,7 @@ no-challenge-requires c κs = tt
 
 returns : tie.Need-returns
 unfolding nothing_raised
-returns c = rw (← c.before.no-car.ensures, ← c.no-challenge.ensures)
+returns c = rw (← c.before.no_car_lem.ensures, ← c.no-challenge.ensures)
 
 pub nothing-raised-spec : {M : Type 1} → statement M
 nothing-raised-spec = tie.close (tie.spec no-car-requires no-challenge-requires returns)

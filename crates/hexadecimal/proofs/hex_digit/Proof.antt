@@ -1,0 +1,25 @@
+-- `hexadecimal::hex_digit` meets its contract. Assumes nothing.
+use Prim.Native.Nat.{◌%◌}
+use native.Mathlib.Omega.{arith}
+use borrow.Author.Tests.{lt-ltb, le-ltb}
+use Rattle.hexadecimal.specs.Hex.{digit}
+use borrow.Author.Rules.{rules}
+use Rattle.hexadecimal.proofs.hex_digit.Statement.{statement}
+use Rattle.hexadecimal.proofs.hex_digit.Tie as tie
+
+add-result : tie.Need-overflow-add-result
+add-result c = search rules
+
+returns : tie.Need-returns
+unfolding digit
+returns c = rw (lt-ltb (c.before.args.n % 16) 10 (omega arith))
+
+add-result-2 : tie.Need-overflow-add-result-2
+add-result-2 c = search rules
+
+returns-2 : tie.Need-returns-2
+unfolding digit
+returns-2 c = rw (le-ltb (c.before.args.n % 16) 10 (omega arith))
+
+pub hex-digit-spec : {M : Type 1} → statement M
+hex-digit-spec = tie.close (tie.spec add-result returns add-result-2 returns-2)
