@@ -8,14 +8,14 @@ use saved_record::{SavedRecord, Store};
 use state::{Answer, Challenge, Kind, Method};
 
 // can_read_write_approval.
-#[derive(Drop)]
+#[derive(Clone, Copy)]
 pub struct ApprovalAnswer {
     pub answer: Answer,
     pub approval: Approval,
 }
 
 // CanAccessState: the platform confirmed, the car confirmed, the approval, the dev lock, logging, read-only.
-#[derive(Drop)]
+#[derive(Clone, Copy)]
 pub struct AccessAnswer {
     pub answer: Answer,
     pub platform: bool,
@@ -28,21 +28,21 @@ pub struct AccessAnswer {
 }
 
 // list_paired_phones.
-#[derive(Drop)]
+#[derive(Clone, Copy)]
 pub struct PhonesAnswer {
     pub answer: Answer,
     pub phones: PhoneList,
 }
 
 // phone_trust_level.
-#[derive(Drop)]
+#[derive(Clone, Copy)]
 pub struct TrustAnswer {
     pub answer: Answer,
     pub trust: Trust,
 }
 
 // The connected phone, and whether it is validated.
-#[derive(Drop)]
+#[derive(Clone, Copy)]
 pub struct PeerAnswer {
     pub answer: Answer,
     pub peer: ShortId,
@@ -50,7 +50,7 @@ pub struct PeerAnswer {
 }
 
 // PhoneAccessState; `session` is `Session` or `Nothing`.
-#[derive(Drop)]
+#[derive(Clone, Copy)]
 pub struct PhoneAccessAnswer {
     pub answer: Answer,
     pub trust: Trust,
@@ -59,7 +59,7 @@ pub struct PhoneAccessAnswer {
 }
 
 // PhoneValidationMethods: each method in its order, and whether it can start now.
-#[derive(Drop)]
+#[derive(Clone, Copy)]
 pub struct MethodsAnswer {
     pub answer: Answer,
     pub list: [Method; 8],
@@ -68,14 +68,14 @@ pub struct MethodsAnswer {
 }
 
 // current_validation_challenge.
-#[derive(Drop)]
+#[derive(Clone, Copy)]
 pub struct ChallengeAnswer {
     pub answer: Answer,
     pub challenge: Challenge,
 }
 
 // encode_phone_validations.
-#[derive(Drop)]
+#[derive(Clone, Copy)]
 pub struct RecordAnswer {
     pub answer: Answer,
     pub stored: SavedRecord,
@@ -83,7 +83,7 @@ pub struct RecordAnswer {
 
 // Which phones would go (W-203): what an operation would answer, the lists that it would leave, and the bytes that their record
 // would need.
-#[derive(Drop)]
+#[derive(Clone, Copy)]
 pub struct PreviewAnswer {
     pub answer: Answer,
     pub paired: PhoneList,

@@ -9,7 +9,7 @@ use state::{Access, Buses, Car, Gate, Identity, Kind, Method, Phones, Policy, Qu
 use waiting_list::Waiting;
 
 // A gate, and the sum so far.
-#[derive(Drop)]
+#[derive(Clone, Copy)]
 pub struct Run {
     pub gate: Gate,
     pub sum: u32,

@@ -12,7 +12,7 @@ use state::{Answer, Queue};
 use waiting_list::Waiting;
 
 // What is said of a frame before it is known whether there is room, and the id that its record has.
-#[derive(Drop)]
+#[derive(Clone, Copy)]
 struct Look {
     passes: bool,
     answer: Answer,
@@ -20,7 +20,7 @@ struct Look {
 }
 
 // What sending a frame says.
-#[derive(Drop)]
+#[derive(Clone, Copy)]
 pub struct Sent {
     pub answer: Answer,
     pub queue: Queue,

@@ -11,7 +11,7 @@ use state::{Core, Decided, Identity, Phones, Queue, Report};
 use waiting_list::Waiting;
 
 // Where a run stands.
-#[derive(Drop)]
+#[derive(Clone, Copy)]
 pub struct Run {
     pub core: Core,
     pub queue: Queue,

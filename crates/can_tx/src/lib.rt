@@ -13,7 +13,7 @@ use state::{Answer, Core, Policy, Probe, Said};
 
 // What is decided of a frame. It is small, and the core is left alone but where an entry of the probe is marked: both calls that
 // have a frame decided look at the core where it lies.
-#[derive(Drop)]
+#[derive(Clone, Copy)]
 pub enum Verdict {
     Passes,
     // through the window, as the entry at this place

@@ -18,7 +18,7 @@ fn little4(x: u32) -> [u8; 4]
     [byte(x), byte(x >> 8), byte(x >> 16), byte(x >> 24)]
 }
 
-#[derive(Drop)]
+#[derive(Clone, Copy)]
 pub struct Digested {
     pub ok: bool,
     pub digest: [u8; 32],

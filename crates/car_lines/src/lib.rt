@@ -13,7 +13,7 @@ use reader::Field;
 use saved_record::CarPhones;
 
 // Where writing and reading stand.
-#[derive(Drop)]
+#[derive(Clone, Copy)]
 pub struct Places {
     pub end: usize,
     pub next: usize,

@@ -11,7 +11,7 @@ use input::Input;
 use libc::{STDERR_FILENO, STDIN_FILENO, STDOUT_FILENO};
 
 // The version that is asked for.
-#[derive(Drop)]
+#[derive(Clone, Copy)]
 enum Target {
     One,
     Two,

@@ -7,7 +7,7 @@ ghost use Rattle.converter.specs.Steps.{Accepted};
 
 use saved_record::RecordVerdict;
 
-#[derive(Drop)]
+#[derive(Clone, Copy)]
 pub enum Conversion {
     Done,
     Malformed,
@@ -18,7 +18,7 @@ pub enum Conversion {
 }
 
 // The answer, and how many bytes the record has as the version asked for; 0 with a refusal other than ShortOutput.
-#[derive(Drop)]
+#[derive(Clone, Copy)]
 pub struct Converted {
     pub answer: Conversion,
     pub room: usize,

@@ -11,7 +11,7 @@ use saved_record::{CarPhones, Decoded, RecordVerdict, Store};
 
 // The car that some bytes begin with, and how many bytes its part takes. A car over the limits has its digest, and no phones;
 // where the part is not whole, there is no car, and no byte is used.
-#[derive(Drop)]
+#[derive(Clone, Copy)]
 struct CarRead {
     whole: bool,
     over: bool,

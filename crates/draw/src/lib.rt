@@ -9,14 +9,14 @@ ghost use Rattle.draw.specs.Draw.{group_at, first_below, digits, drawn};
 const M: u32 = 4_294_967_295;
 
 // The first group below a limit, if there is one.
-#[derive(Drop)]
+#[derive(Clone, Copy)]
 enum Found {
     Value(u32),
     Spent,
 }
 
 // What a draw gives: `ok` and the digits in ASCII with zeros past them, or nine zeros if no group was below the limit.
-#[derive(Drop)]
+#[derive(Clone, Copy)]
 pub struct Drawn {
     pub ok: bool,
     pub code: [u8; 9],

@@ -19,7 +19,7 @@ use replay_digits::Number;
 use replay_values::{CanId, Data};
 
 // What a line says; not `ok`: it is not of the form (and zeros).
-#[derive(Drop)]
+#[derive(Clone, Copy)]
 pub struct LineEntry {
     pub ok: bool,
     pub time: u64,
@@ -27,7 +27,7 @@ pub struct LineEntry {
 }
 
 // What stands behind the keys of a line, of its form or not.
-#[derive(Drop)]
+#[derive(Clone, Copy)]
 struct Values {
     time: Number,
     bus: Number,

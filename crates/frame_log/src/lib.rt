@@ -6,7 +6,7 @@ ghost use Rattle.frame_log.specs.Logs.{log_read, read_log, line_length};
 
 use matcher::FrameLog;
 
-#[derive(Drop)]
+#[derive(Clone, Copy)]
 pub enum LogAnswer {
     Read,
     BadLine(usize),
@@ -15,7 +15,7 @@ pub enum LogAnswer {
 }
 
 // The frames of a log and their times; zeros past the count. Refused: no frame.
-#[derive(Drop)]
+#[derive(Clone, Copy)]
 pub struct ReadLog {
     pub answer: LogAnswer,
     pub log: FrameLog,

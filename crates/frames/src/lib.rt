@@ -6,14 +6,14 @@ ghost use Rattle.arrays.specs.Arrays.{same_bytes};
 ghost use Rattle.frames.specs.Frames.{raw_of, can_id_in_range, same_id, is_entry, bus_exists, is_command};
 
 // A CAN identifier, 11 bits wide or 29. The number is as lent, in range or not.
-#[derive(Drop)]
+#[derive(Clone, Copy)]
 pub enum Id {
     Standard(u32),
     Extended(u32),
 }
 
 // A frame received from a bus or to be sent on one. `bus` and `dlc` are as lent, with any value.
-#[derive(Drop)]
+#[derive(Clone, Copy)]
 pub struct CanFrame {
     pub bus: u8,
     pub id: Id,
@@ -22,7 +22,7 @@ pub struct CanFrame {
 }
 
 // A frame that an identity probe may send.
-#[derive(Drop)]
+#[derive(Clone, Copy)]
 pub struct ProbeFrame {
     pub id: Id,
     pub data: [u8; 8],
@@ -30,7 +30,7 @@ pub struct ProbeFrame {
 
 // What a frame to send belongs to: the platform's own traffic, or the command of a phone.
 // That phone's id is lent as a slice beside the class, since an enum holds no reference.
-#[derive(Drop)]
+#[derive(Clone, Copy)]
 pub enum TxClass {
     Platform,
     Command,

@@ -15,14 +15,14 @@ use state::{Answer, Gate, Outcome, Ran};
 use waiting_list::Waiting;
 
 // What sending a frame gives, and the list that it leaves.
-#[derive(Drop)]
+#[derive(Clone, Copy)]
 pub struct SentOn {
     pub outcome: Outcome,
     pub all: [Waiting; 16],
 }
 
 // What a run gives, and the list that it leaves.
-#[derive(Drop)]
+#[derive(Clone, Copy)]
 pub struct RanOn {
     pub ran: Ran,
     pub all: [Waiting; 16],

@@ -6,7 +6,7 @@ ghost use Rattle.arrays.specs.Arrays.{put};
 ghost use Rattle.hexadecimal.specs.Hex.{digit, hex_of, value_of};
 
 // What one byte of text is worth as a digit.
-#[derive(Drop)]
+#[derive(Clone, Copy)]
 pub enum HexValue {
     Digit(u8),
     NotHex,

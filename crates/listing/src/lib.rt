@@ -11,7 +11,7 @@ ghost use Rattle.listing.specs.Steps.{first_car};
 use saved_record::{RecordVerdict, Store};
 
 // The lines with their length; zeros past it.
-#[derive(Drop)]
+#[derive(Clone, Copy)]
 pub struct Listing {
     pub bytes: [u8; 9414],
     pub len: usize,

@@ -9,19 +9,19 @@ ghost use Rattle.matcher.specs.Greedy.{free_in, first_fit, greedy, Sized};
 
 use frames::CanFrame;
 
-#[derive(Drop)]
+#[derive(Clone, Copy)]
 pub struct FrameLog {
     pub frames: [CanFrame; 512],
     pub count: usize,
 }
 
-#[derive(Drop)]
+#[derive(Clone, Copy)]
 pub enum Log {
     Journal,
     Recorder,
 }
 
-#[derive(Drop)]
+#[derive(Clone, Copy)]
 pub enum MatchAnswer {
     Matched,
     StopsAt(usize),
@@ -31,7 +31,7 @@ pub enum MatchAnswer {
 }
 
 // A place, or the number of a line.
-#[derive(Drop)]
+#[derive(Clone, Copy)]
 pub enum Found {
     At(usize),
     Nothing,

@@ -9,7 +9,7 @@ ghost use Rattle.phone_fields.specs.Steps.{first_length, only_checked};
 
 use phones::PhoneList;
 
-#[derive(Drop)]
+#[derive(Clone, Copy)]
 pub enum FieldsVerdict {
     Whole,
     Malformed,
@@ -18,7 +18,7 @@ pub enum FieldsVerdict {
 
 // The phones that some bytes begin with, and how many bytes they take. The list is empty where they are too large for one;
 // where they are malformed, no byte is used either.
-#[derive(Drop)]
+#[derive(Clone, Copy)]
 pub struct FieldsRead {
     pub verdict: FieldsVerdict,
     pub phones: PhoneList,

@@ -11,7 +11,7 @@ use saved_record::Store;
 use state::{Identity, Phones};
 
 // PhoneTrustLevel.
-#[derive(Drop)]
+#[derive(Clone, Copy)]
 pub enum Trust {
     NotBonded,
     Bonded,

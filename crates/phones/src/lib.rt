@@ -11,13 +11,13 @@ ghost use Rattle.phones.specs.Phones.{id_bytes, id_of, made_id, id_in_range, ids
 ghost use Rattle.phones.specs.Steps.{first_at, measured_of};
 
 // An id of at most 32 bytes: a phone's, or a method's.
-#[derive(Drop)]
+#[derive(Clone, Copy)]
 pub struct ShortId {
     pub bytes: [u8; 32],
     pub len: usize,
 }
 
-#[derive(Drop)]
+#[derive(Clone, Copy)]
 pub struct PhoneList {
     pub bytes: [u8; 1024],
     pub lens: [u8; 32],
@@ -25,14 +25,14 @@ pub struct PhoneList {
 }
 
 // An id, or none (and the empty id) where the byte string was too long.
-#[derive(Drop)]
+#[derive(Clone, Copy)]
 pub struct MadeId {
     pub ok: bool,
     pub id: ShortId,
 }
 
 // The lengths of some ids, and where they end.
-#[derive(Drop)]
+#[derive(Clone, Copy)]
 struct Measured {
     lens: [u8; 32],
     end: usize,

@@ -7,7 +7,7 @@ ghost use Rattle.policy.specs.Policy.{fingerprint_confirmed, identified_car, is_
 use state::{Access, Buses, Car, Identity, Policy};
 
 // CanReadWriteApproval: the approval compared with the identified car.
-#[derive(Drop)]
+#[derive(Clone, Copy)]
 pub enum Approval {
     NotApproved,
     AwaitingCar,

@@ -10,7 +10,7 @@ use frames::{CanFrame, Id, ProbeFrame};
 use state::{Identity, Policy, Probe, Window};
 
 // The place of the first entry of a probe that is a given frame and was not sent yet.
-#[derive(Drop)]
+#[derive(Clone, Copy)]
 pub enum Unsent {
     At(usize),
     Nothing,

@@ -6,7 +6,7 @@ ghost use Rattle.std.specs.Prelude.{◌≡◌};
 ghost use Rattle.reader.specs.Reader.{field_at};
 
 // A field is a length byte and as many bytes after it.
-#[derive(Drop)]
+#[derive(Clone, Copy)]
 pub enum Field {
     // The bytes of the field stand from `start` on and are `len` many; `next` is the place after them.
     Whole {
@@ -20,7 +20,7 @@ pub enum Field {
     End,
 }
 
-#[derive(Drop)]
+#[derive(Clone, Copy)]
 pub struct Reader<'a> {
     pub src: &'a [u8],
     pub at: usize,

@@ -16,7 +16,7 @@ use replay_host::Host;
 
 // The host, the number of the line that is being read, and how much of it is there; above the room for a line: it is too
 // long. Not `going`: the script has ended, or reading or writing failed.
-#[derive(Drop)]
+#[derive(Clone, Copy)]
 struct Replay {
     host: Host,
     number: u64,

@@ -19,7 +19,7 @@ use replay_lines::{key, word};
 use state::{Answer, SessionReply};
 
 // The session of a phone, or none.
-#[derive(Drop)]
+#[derive(Clone, Copy)]
 pub enum Seen {
     Missing,
     Shown(SessionReply),

@@ -5,7 +5,7 @@ ghost use Rattle.std.specs.Prelude.{◌≡◌};
 ghost use Rattle.replay_arguments.specs.Arguments.{asked_by};
 
 // What the arguments ask for: what each line gives, or states too; otherwise the place of an argument that is not known.
-#[derive(Drop)]
+#[derive(Clone, Copy)]
 pub enum Asked {
     Lines,
     States,

@@ -7,21 +7,21 @@ ghost use Rattle.replay_digits.specs.Digits.{digit_of, number_in, is_hex, pairs_
 
 use hexadecimal::HexValue;
 
-#[derive(Drop)]
+#[derive(Clone, Copy)]
 pub enum Number {
     Given(u64),
     NoNumber,
 }
 
 // How bytes may be written: as pairs of hexadecimal digits alone, or as text too.
-#[derive(Drop)]
+#[derive(Clone, Copy)]
 pub enum Written {
     Hex,
     HexOrText,
 }
 
 // The place after the bytes that were laid down.
-#[derive(Drop)]
+#[derive(Clone, Copy)]
 pub enum Laid {
     To(usize),
     NoBytes,

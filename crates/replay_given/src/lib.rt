@@ -19,7 +19,7 @@ use replay_items::{Ends, Items};
 use state::{Answer, Outcome};
 
 // The host after a line, the place after what was laid down, and whether the line was a call.
-#[derive(Drop)]
+#[derive(Clone, Copy)]
 pub struct Played {
     pub host: Host,
     pub at: usize,

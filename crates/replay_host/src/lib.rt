@@ -11,7 +11,7 @@ use state::{Gate, Outcome, Ran};
 use waiting_list::Waiting;
 
 // Of the seventeen records the first `lent` are lent.
-#[derive(Drop)]
+#[derive(Clone, Copy)]
 pub struct Host {
     pub gate: Gate,
     pub list: [Waiting; 17],
@@ -19,13 +19,13 @@ pub struct Host {
 }
 
 // What a call on waiting frames gives, and the host's list as it is left.
-#[derive(Drop)]
+#[derive(Clone, Copy)]
 pub struct Sent {
     pub outcome: Outcome,
     pub list: [Waiting; 17],
 }
 
-#[derive(Drop)]
+#[derive(Clone, Copy)]
 pub struct Served {
     pub ran: Ran,
     pub list: [Waiting; 17],

@@ -15,60 +15,60 @@ use replay_values::CarItem;
 use state::Settings;
 
 // A number of 8, 32 or 64 bits; not `ok`: it is missing, repeated or not of its form.
-#[derive(Drop)]
+#[derive(Clone, Copy)]
 pub struct Small {
     pub ok: bool,
     pub value: u8,
 }
 
-#[derive(Drop)]
+#[derive(Clone, Copy)]
 pub struct Word {
     pub ok: bool,
     pub value: u32,
 }
 
-#[derive(Drop)]
+#[derive(Clone, Copy)]
 pub struct Clock {
     pub ok: bool,
     pub value: u64,
 }
 
 // A length or a place of the host's list, up to the most that it may be.
-#[derive(Drop)]
+#[derive(Clone, Copy)]
 pub struct Place {
     pub ok: bool,
     pub value: usize,
 }
 
 // yes or no.
-#[derive(Drop)]
+#[derive(Clone, Copy)]
 pub struct Switch {
     pub ok: bool,
     pub on: bool,
 }
 
-#[derive(Drop)]
+#[derive(Clone, Copy)]
 pub struct ClassItem {
     pub ok: bool,
     pub class: TxClass,
 }
 
 // A frame to send: frame_bus, kind, id, dlc and data.
-#[derive(Drop)]
+#[derive(Clone, Copy)]
 pub struct FrameItem {
     pub ok: bool,
     pub frame: CanFrame,
 }
 
 // The six settings of a new gate.
-#[derive(Drop)]
+#[derive(Clone, Copy)]
 pub struct SettingsItem {
     pub ok: bool,
     pub settings: Settings,
 }
 
 // `slot` is the place of a record in the host's list, which stands behind the same key as `place`.
-#[derive(Drop)]
+#[derive(Clone, Copy)]
 pub struct Numbers {
     pub clock: Clock,
     pub session: Word,
@@ -82,7 +82,7 @@ pub struct Numbers {
     pub slot: Place,
 }
 
-#[derive(Drop)]
+#[derive(Clone, Copy)]
 pub struct Switches {
     pub unlocked: Switch,
     pub enabled: Switch,
@@ -91,7 +91,7 @@ pub struct Switches {
 }
 
 // Which byte values there are.
-#[derive(Drop)]
+#[derive(Clone, Copy)]
 pub struct Has {
     pub phone: bool,
     pub method: bool,
@@ -104,7 +104,7 @@ pub struct Has {
 }
 
 // Where each byte value ends in lent memory; it begins where the one before it ends, the first at 0.
-#[derive(Drop)]
+#[derive(Clone, Copy)]
 pub struct Ends {
     pub phone: usize,
     pub method: usize,
@@ -117,20 +117,20 @@ pub struct Ends {
 }
 
 // One byte value that was laid down: whether there is one, and the place after it.
-#[derive(Drop)]
+#[derive(Clone, Copy)]
 struct LaidValue {
     ok: bool,
     end: usize,
 }
 
-#[derive(Drop)]
-struct LaidValues {
+#[derive(Clone, Copy)]
+pub struct LaidValues {
     has: Has,
     ends: Ends,
 }
 
 // `count` is how many items there are, known or not; `nobody` says that the phone is `none`.
-#[derive(Drop)]
+#[derive(Clone, Copy)]
 pub struct Items {
     pub count: usize,
     pub numbers: Numbers,
@@ -145,7 +145,7 @@ pub struct Items {
     pub has: Has,
 }
 
-#[derive(Drop)]
+#[derive(Clone, Copy)]
 pub struct ItemsRead {
     pub items: Items,
     pub ends: Ends,

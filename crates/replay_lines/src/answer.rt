@@ -9,7 +9,7 @@ use crate::{key, word};
 use state::{Answer, Kind, SessionReply, Status};
 
 // What an answer holds. An item is the place of its key and a number; a part of a save, how many bytes, and whether they are the last.
-#[derive(Drop)]
+#[derive(Clone, Copy)]
 pub enum Held {
     Fine,
     Blank,
@@ -20,7 +20,7 @@ pub enum Held {
 }
 
 // The place of an answer's name among the words, and what it holds.
-#[derive(Drop)]
+#[derive(Clone, Copy)]
 pub struct Shown(pub usize, pub Held);
 
 pub fn shown_by(a: Answer) -> Shown

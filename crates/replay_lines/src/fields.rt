@@ -7,7 +7,7 @@ ghost use Rattle.replay_lines.specs.Fields.{put_field, put_fields};
 
 // The place of the key, then the value. `Key` has no value: a list stands behind it.
 // Word: the place of the word. Bytes: the first n lent bytes. Digits: the same, or `-` for none. Known: the lent bytes, or `none`.
-#[derive(Drop)]
+#[derive(Clone, Copy)]
 pub enum Field {
     Nothing,
     Key(usize),

@@ -15,7 +15,7 @@ use replay_values::{CanId, Data, Flag};
 use state::{Kind, Method};
 
 // The methods of a new gate: the first eight, and how many there are; not `ok`: one is not of its form.
-#[derive(Drop)]
+#[derive(Clone, Copy)]
 pub struct Methods {
     pub ok: bool,
     pub list: [Method; 8],
@@ -23,7 +23,7 @@ pub struct Methods {
 }
 
 // The frames of a probe: the first four, and how many there are; not `ok`: one is not of its form.
-#[derive(Drop)]
+#[derive(Clone, Copy)]
 pub struct ProbeFrames {
     pub ok: bool,
     pub list: [ProbeFrame; 4],
@@ -31,32 +31,32 @@ pub struct ProbeFrames {
 }
 
 // The places of the two slashes of a value of three parts; not `ok`: it has not three.
-#[derive(Drop)]
+#[derive(Clone, Copy)]
 struct Slashes {
     ok: bool,
     one: usize,
     two: usize,
 }
 
-#[derive(Drop)]
+#[derive(Clone, Copy)]
 struct IdItem {
     ok: bool,
     id: ShortId,
 }
 
-#[derive(Drop)]
+#[derive(Clone, Copy)]
 enum KindItem {
     Of(Kind),
     NoKind,
 }
 
-#[derive(Drop)]
+#[derive(Clone, Copy)]
 struct MethodItem {
     ok: bool,
     method: Method,
 }
 
-#[derive(Drop)]
+#[derive(Clone, Copy)]
 struct FrameItem {
     ok: bool,
     frame: ProbeFrame,

@@ -7,7 +7,7 @@ ghost use Rattle.word_table.specs.Words.{before};
 ghost use Rattle.replay_script.specs.Places.{has_key, no_span, Next, item_of, first_of, Only};
 
 // A part of a line, from `start` to before `end`; not `ok`: there is none.
-#[derive(Drop)]
+#[derive(Clone, Copy)]
 pub struct Span {
     pub ok: bool,
     pub start: usize,

@@ -10,28 +10,28 @@ use frames::Id;
 use replay_digits::{Laid, Number, Written};
 use state::Car;
 
-#[derive(Drop)]
+#[derive(Clone, Copy)]
 pub enum Flag {
     Yes,
     No,
     NoFlag,
 }
 
-#[derive(Drop)]
+#[derive(Clone, Copy)]
 pub enum CanId {
     Is(Id),
     NoId,
 }
 
 // Eight bytes, or none (and zeros).
-#[derive(Drop)]
+#[derive(Clone, Copy)]
 pub struct Data {
     pub ok: bool,
     pub bytes: [u8; 8],
 }
 
 // A car's digest, or the word none; not `ok`: neither.
-#[derive(Drop)]
+#[derive(Clone, Copy)]
 pub struct CarItem {
     pub ok: bool,
     pub car: Car,

@@ -11,7 +11,7 @@ use saved_record::Store;
 use state::{Answer, Save};
 
 // What an operation on the save says, but for the memory that it was lent.
-#[derive(Drop)]
+#[derive(Clone, Copy)]
 pub struct Kept {
     pub answer: Answer,
     pub save: Save,

@@ -10,27 +10,27 @@ ghost use Rattle.saved_record.specs.Steps.{twice_at};
 use phones::PhoneList;
 
 // A car's digest, and the phones that are validated for it.
-#[derive(Drop)]
+#[derive(Clone, Copy)]
 pub struct CarPhones {
     pub car: [u8; 32],
     pub phones: PhoneList,
 }
 
 // The cars in use are the first `count`, in order of first validation.
-#[derive(Drop)]
+#[derive(Clone, Copy)]
 pub struct Store {
     pub cars: [CarPhones; 4],
     pub count: usize,
 }
 
 // A record with its length; zeros past it.
-#[derive(Drop)]
+#[derive(Clone, Copy)]
 pub struct SavedRecord {
     pub bytes: [u8; 4358],
     pub len: usize,
 }
 
-#[derive(Drop)]
+#[derive(Clone, Copy)]
 pub enum RecordVerdict {
     Restored,
     Malformed,
@@ -39,7 +39,7 @@ pub enum RecordVerdict {
 }
 
 // What a record says. Where it is refused, the store is empty.
-#[derive(Drop)]
+#[derive(Clone, Copy)]
 pub struct Decoded {
     pub answer: RecordVerdict,
     pub store: Store,

@@ -9,7 +9,7 @@ ghost use Rattle.session.specs.Session.{seconds_of, reply_of, ended_as, is_of, l
 use state::{Core, Method, Methods, Session, SessionReply, Status};
 
 // What a tick does to the session.
-#[derive(Drop)]
+#[derive(Clone, Copy)]
 pub enum Lapse {
     Stays,
     Ends(Status),

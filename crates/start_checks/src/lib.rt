@@ -10,7 +10,7 @@ ghost use Rattle.start_checks.specs.Way.{way_as, taken};
 use state::{Answer, Core, Kind, Mark, Session};
 
 // What a start comes to: it is refused, or a session begins whose digits come from the mark.
-#[derive(Drop)]
+#[derive(Clone, Copy)]
 pub enum Way {
     Refused(Answer),
     Begins(Mark),

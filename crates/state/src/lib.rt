@@ -11,14 +11,14 @@ use phones::{PhoneList, ShortId};
 use saved_record::{SavedRecord, Store};
 
 // ValidationKind.
-#[derive(Drop)]
+#[derive(Clone, Copy)]
 pub enum Kind {
     CodeEntry,
     InCarAction,
 }
 
 // PhoneValidationStatus.
-#[derive(Drop)]
+#[derive(Clone, Copy)]
 pub enum Status {
     InProgress,
     Succeeded,
@@ -28,7 +28,7 @@ pub enum Status {
 }
 
 // ValidationMethod.
-#[derive(Drop)]
+#[derive(Clone, Copy)]
 pub struct Method {
     pub id: ShortId,
     pub kind: Kind,
@@ -36,7 +36,7 @@ pub struct Method {
 }
 
 // The constants of the source that a new gate is given; times in ms.
-#[derive(Drop)]
+#[derive(Clone, Copy)]
 pub struct Settings {
     pub digits: usize,
     pub tries: usize,
@@ -47,7 +47,7 @@ pub struct Settings {
 }
 
 // The methods in their order, and what the host noted of each: may it start, may its session go on.
-#[derive(Drop)]
+#[derive(Clone, Copy)]
 pub struct Methods {
     pub list: [Method; 8],
     pub count: usize,
@@ -56,14 +56,14 @@ pub struct Methods {
 }
 
 // A car's digest, or none (and zeros).
-#[derive(Drop)]
+#[derive(Clone, Copy)]
 pub struct Car {
     pub known: bool,
     pub digest: [u8; 32],
 }
 
 // The two stages of a car's identity: the platform's number and whether it is confirmed, then the car.
-#[derive(Drop)]
+#[derive(Clone, Copy)]
 pub struct Identity {
     pub platform: u32,
     pub confirmed: bool,
@@ -71,7 +71,7 @@ pub struct Identity {
 }
 
 // The owner's approval, the dev lock (unlocked or not) and whether this is a production build, which has no dev lock.
-#[derive(Drop)]
+#[derive(Clone, Copy)]
 pub struct Access {
     pub approval: Car,
     pub unlocked: bool,
@@ -79,7 +79,7 @@ pub struct Access {
 }
 
 // The vehicle's read-only flag, CAN logging, and which bus is CAN FD.
-#[derive(Drop)]
+#[derive(Clone, Copy)]
 pub struct Buses {
     pub vehicle_read_only: bool,
     pub logging: bool,
@@ -87,7 +87,7 @@ pub struct Buses {
 }
 
 // What can.rs and can_access.rs keep of the car and of who may write to it.
-#[derive(Drop)]
+#[derive(Clone, Copy)]
 pub struct Policy {
     pub identity: Identity,
     pub access: Access,
@@ -95,7 +95,7 @@ pub struct Policy {
 }
 
 // Session of validation.rs, without its code and its tries.
-#[derive(Drop)]
+#[derive(Clone, Copy)]
 pub struct Session {
     pub present: bool,
     pub number: u32,
@@ -109,7 +109,7 @@ pub struct Session {
 
 // State of validation.rs: the latest session, the end of the cooldown, the next session's number; and the tries left, which are the gate's
 // and not a session's (W-206).
-#[derive(Drop)]
+#[derive(Clone, Copy)]
 pub struct Validation {
     pub session: Session,
     pub cooldown_until: u64,
@@ -118,7 +118,7 @@ pub struct Validation {
 }
 
 // Window of can_probe.rs with the probe it was opened for; `sent` marks the frames that passed.
-#[derive(Drop)]
+#[derive(Clone, Copy)]
 pub struct Window {
     pub present: bool,
     pub bus: u8,
@@ -131,7 +131,7 @@ pub struct Window {
 
 // The statics of can_probe.rs: the window, ATTEMPTS, RELOCKS, LAST_RX_MS; of this, for each bus whether a frame was heard and when the
 // last one was (W-201).
-#[derive(Drop)]
+#[derive(Clone, Copy)]
 pub struct Probe {
     pub window: Window,
     pub attempts: u8,
@@ -141,7 +141,7 @@ pub struct Probe {
 }
 
 // Everything but the lists, a save, the waiting frames and the digits. `peer` is the connected phone, none exactly if its length is 0.
-#[derive(Drop)]
+#[derive(Clone, Copy)]
 pub struct Core {
     pub settings: Settings,
     pub methods: Methods,
@@ -152,14 +152,14 @@ pub struct Core {
 }
 
 // The lists: who is paired, and who is validated.
-#[derive(Drop)]
+#[derive(Clone, Copy)]
 pub struct Phones {
     pub paired: PhoneList,
     pub store: Store,
 }
 
 // A save of the record, as it was when the save was opened (W-209); its first `at` bytes were handed out. Not present: none is open, and zeros.
-#[derive(Drop)]
+#[derive(Clone, Copy)]
 pub struct Save {
     pub stored: SavedRecord,
     pub at: usize,
@@ -167,13 +167,13 @@ pub struct Save {
 }
 
 // The frames that wait in the list that the host lends (W-204): how many of its records, and the bus last served.
-#[derive(Drop)]
+#[derive(Clone, Copy)]
 pub struct Queue {
     pub count: usize,
     pub last: u8,
 }
 
-#[derive(Drop)]
+#[derive(Clone, Copy)]
 pub struct Gate {
     pub core: Core,
     pub phones: Phones,
@@ -183,7 +183,7 @@ pub struct Gate {
 }
 
 // PhoneValidationSession: what a session shows. `length`, `tries` are 0 unless its method is CodeEntry.
-#[derive(Drop)]
+#[derive(Clone, Copy)]
 pub struct SessionReply {
     pub method: usize,
     pub kind: Kind,
@@ -195,7 +195,7 @@ pub struct SessionReply {
 }
 
 // What a call answers; `number` of specs/Answers.antt gives document 01's number of each refusal.
-#[derive(Drop)]
+#[derive(Clone, Copy)]
 pub enum Answer {
     Done,
     Yes,
@@ -238,21 +238,21 @@ pub enum Answer {
 }
 
 // CAN_READ_ONLY_WATCH.
-#[derive(Drop)]
+#[derive(Clone, Copy)]
 pub struct ReadOnlySignal {
     pub sent: bool,
     pub value: bool,
 }
 
 // APPROVAL_TO_STORE: a digest to store, or none: erase.
-#[derive(Drop)]
+#[derive(Clone, Copy)]
 pub struct ApprovalSignal {
     pub sent: bool,
     pub car: Car,
 }
 
 // VALIDATIONS_TO_STORE: the record to store; of length 0: erase.
-#[derive(Drop)]
+#[derive(Clone, Copy)]
 pub struct ValidationsSignal {
     pub stored: SavedRecord,
     pub sent: bool,
@@ -260,7 +260,7 @@ pub struct ValidationsSignal {
 
 // ValidationChallenge: none, or the running session's number and method, and its digits. `length` is their number, 0 for
 // an in-car action.
-#[derive(Drop)]
+#[derive(Clone, Copy)]
 pub struct Challenge {
     pub running: bool,
     pub session: u32,
@@ -270,7 +270,7 @@ pub struct Challenge {
 }
 
 // CHALLENGE.
-#[derive(Drop)]
+#[derive(Clone, Copy)]
 pub struct ChallengeSignal {
     pub sent: bool,
     pub challenge: Challenge,
@@ -278,7 +278,7 @@ pub struct ChallengeSignal {
 
 // The last value that a call sent on each channel: CAN_ACCESS_CHANGED, the availability's CHANGED, and those above. The record stands
 // first, so that one that is not sent is set to zeros in its place, and not copied there.
-#[derive(Drop)]
+#[derive(Clone, Copy)]
 pub struct Signals {
     pub validations: ValidationsSignal,
     pub access: bool,
@@ -289,7 +289,7 @@ pub struct Signals {
 }
 
 // What an operation sends: every channel but VALIDATIONS_TO_STORE, whose value is the record of the store that the call leaves.
-#[derive(Drop)]
+#[derive(Clone, Copy)]
 pub struct Raised {
     pub access: bool,
     pub availability: bool,
@@ -299,7 +299,7 @@ pub struct Raised {
 }
 
 // Where digits come from: there are none, the gate's, or those that this call drew.
-#[derive(Drop)]
+#[derive(Clone, Copy)]
 pub enum Mark {
     Blank,
     Kept,
@@ -307,7 +307,7 @@ pub enum Mark {
 }
 
 // What an operation on a core says: `shows` marks the digits of the challenge, `code` those of the gate. The lists stay.
-#[derive(Drop)]
+#[derive(Clone, Copy)]
 pub struct Said {
     pub answer: Answer,
     pub raised: Raised,
@@ -317,14 +317,14 @@ pub struct Said {
 }
 
 // What an operation on a session says: the lists stay, or the session's phone is validated for the session's car.
-#[derive(Drop)]
+#[derive(Clone, Copy)]
 pub struct Ended {
     pub said: Said,
     pub validates: bool,
 }
 
 // What an operation on the lists gives: the core and the digits stay. `stores`: the store's record is sent.
-#[derive(Drop)]
+#[derive(Clone, Copy)]
 pub struct Listed {
     pub answer: Answer,
     pub raised: Raised,
@@ -333,7 +333,7 @@ pub struct Listed {
 }
 
 // What a call gives.
-#[derive(Drop)]
+#[derive(Clone, Copy)]
 pub struct Outcome {
     pub answer: Answer,
     pub signals: Signals,
@@ -341,21 +341,21 @@ pub struct Outcome {
 }
 
 // A frame that a turn took, under its bus modulo 4, and whether allow let it pass.
-#[derive(Drop)]
+#[derive(Clone, Copy)]
 pub struct Decided {
     pub frame: CanFrame,
     pub allowed: bool,
 }
 
 // What a run of turns reports (W-204): how many it took, and for each in order the frame and yes or no; past them empty frames and no.
-#[derive(Drop)]
+#[derive(Clone, Copy)]
 pub struct Report {
     pub turns: usize,
     pub frames: [Decided; 16],
 }
 
 // What a run gives.
-#[derive(Drop)]
+#[derive(Clone, Copy)]
 pub struct Ran {
     pub outcome: Outcome,
     pub report: Report,

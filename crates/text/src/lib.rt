@@ -9,7 +9,7 @@ ghost use Rattle.text.specs.Steps.{turn_of, Says, first_ten, kept_of};
 use utf8::Char;
 
 // What is not trimmed so far, from `start` to before `end`, and the place of the next character.
-#[derive(Drop)]
+#[derive(Clone, Copy)]
 struct Span {
     start: usize,
     end: usize,
@@ -17,14 +17,14 @@ struct Span {
 }
 
 // A text without the White_Space at both ends, from its first byte to before the second place.
-#[derive(Drop)]
+#[derive(Clone, Copy)]
 enum Trimmed {
     Text(usize, usize),
     NotText,
 }
 
 // What is left of a text without separators, as far as ten bytes: one more than the longest code has.
-#[derive(Drop)]
+#[derive(Clone, Copy)]
 struct Grouped {
     bytes: [u8; 10],
     len: usize,

@@ -11,7 +11,7 @@ ghost use Rattle.text_cases.specs.Cases.{line_length, nibble_of, pairs_in, bytes
 use hexadecimal::HexValue;
 use libc::{STDIN_FILENO, STDOUT_FILENO};
 
-#[derive(Drop)]
+#[derive(Clone, Copy)]
 enum Verdict {
     NoText,
     Wrong,

@@ -7,7 +7,7 @@ ghost use Rattle.utf8.specs.Utf8.{utf8_tail, utf8_2, utf8_3, utf8_4};
 ghost use Rattle.utf8.specs.First.{first_char};
 
 // The character that a string begins with: its code point and its number of bytes.
-#[derive(Drop)]
+#[derive(Clone, Copy)]
 pub enum Char {
     Point(u32, usize),
     Bad,

@@ -9,7 +9,7 @@ use frames::{CanFrame, TxClass};
 use phones::ShortId;
 
 // A frame as it was sent, with its class and, of a command, the id of its phone. The host may have altered any of it.
-#[derive(Drop)]
+#[derive(Clone, Copy)]
 pub struct Waiting {
     pub frame: CanFrame,
     pub class: TxClass,

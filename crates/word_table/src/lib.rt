@@ -6,7 +6,7 @@ ghost use Rattle.word_table.specs.Words.{before, name_of, lines_of, place_in, Ro
 ghost use Rattle.arrays.specs.Arrays.{same_bytes};
 
 // A part of a text, from its first byte to before the second place.
-#[derive(Drop)]
+#[derive(Clone, Copy)]
 pub struct Part(pub usize, pub usize);
 
 // Where the first `b` stands from `at` on, or the text ends.
