@@ -81,6 +81,7 @@ fn allows_command(policy: Policy, bus: u8, frame: CanFrame, validated: bool) -> 
 }
 
 // `validated`: the phone that a command is for is; for a platform frame it is not looked at.
+#[tactic(auto, unfolding(crate::specs::Verdict::verdict))]
 pub fn decide_can_tx(
     core: Core,
     bus: u8,

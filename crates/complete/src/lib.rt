@@ -50,6 +50,7 @@ fn completed(core: Core, number: u32, clock: u64, full: bool) -> Ended
 }
 
 // `full`: this car's list is full without the session's phone.
+#[tactic(auto, unfolding(validation::specs::Calls::complete))]
 pub fn complete_validation_action_at(core: Core, number: u32, clock: u64, full: bool) -> Ended
     ensures { result ≡ Calls.complete core number clock full }
 {

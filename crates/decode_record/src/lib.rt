@@ -53,6 +53,7 @@ fn whole_part(rest: &[u8], read: FieldsRead, over: bool) -> CarRead
 }
 
 // Reads a car's part from the front of what remains. What follows it is not looked at.
+#[tactic(auto, unfolding(crate::specs::Steps::car_read))]
 fn read_car(rest: &[u8]) -> CarRead
     ensures { result ≡ car_read (length rest.now) (read_car rest.now) }
 {

@@ -88,6 +88,7 @@ fn code_of(v: u32, n: usize) -> [u8; 9]
 
 // The code of n digits that the bytes draw. The gate asks for 1 to 9 digits only. Above 9 there is no code, and for n = 0
 // the same formula gives a code without digits.
+#[tactic(auto, unfolding(crate::specs::Draw::drawn, crate::specs::Draw::draw_limit))]
 pub fn draw(random: &[u8], n: usize) -> Drawn
     ensures { result ≡ drawn random.now n }
 {

@@ -163,6 +163,7 @@ fn entry_if(time: u64, bus: u64, id: Id, dlc: u64, eight: Data) -> LineEntry
 }
 
 // The entry of values that are all there and in range.
+#[tactic(auto, unfolding(crate::specs::Guess::entry_from))]
 fn entry_of(v: Values) -> LineEntry
     ensures { result ≡ entry_from v }
 {
@@ -186,6 +187,7 @@ fn entry_of(v: Values) -> LineEntry
     entry_if(t, b, id, d, eight)
 }
 
+#[tactic(auto, unfolding(replay_page::specs::Page::text))]
 fn put_kind(out: &mut [u8], at: usize, id: Id) -> usize
     ensures { page out.new result ≡ text (kind_of id) (page out.old at) }
 {

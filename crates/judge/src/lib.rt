@@ -56,6 +56,7 @@ fn right_code(core: Core, clock: u64, full: bool) -> Ended
 }
 
 // Only a session of code entry has a code.
+#[tactic(auto, unfolding(validation::specs::Calls::judge))]
 pub fn judge_as(core: Core, clock: u64, right: bool, full: bool, kind: Kind) -> Ended
     ensures { result ≡ judge_as core clock right full kind }
 {

@@ -55,6 +55,7 @@ pub fn match_texts(journal: &[u8], recorder: &[u8]) -> MatchAnswer
     fault_of(Log::Journal, sent)
 }
 
+#[tactic(auto, unfolding(replay_page::specs::Page::text))]
 fn put_log(out: &mut [u8], at: usize, log: Log) -> usize
     ensures { page out.new result ≡ text (log_name log) (page out.old at) }
 {
@@ -81,6 +82,7 @@ fn put_over(out: &mut [u8], log: Log) -> usize
 }
 
 // The words of an answer.
+#[tactic(auto, unfolding(frame_lines::specs::Walk::lay, replay_page::specs::Page::item))]
 fn put_words(out: &mut [u8], answer: MatchAnswer) -> usize
     ensures { (page out.new result ≡ lay (words answer) (page out.old 0)) × Small answer }
 {

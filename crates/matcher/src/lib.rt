@@ -125,6 +125,7 @@ fn first_fall(times: &[u64]) -> Found
 }
 
 // Yes, or the line number of the first recorded frame at which a match stops being possible; 38 and 37 first.
+#[tactic(auto, unfolding(crate::specs::Match::match_of))]
 pub fn match_logs(
     journal: FrameLog,
     journal_times: &[u64],

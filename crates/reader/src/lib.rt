@@ -27,6 +27,7 @@ pub struct Reader<'a> {
 }
 
 // The field at a position of a slice.
+#[tactic(auto, unfolding(crate::specs::Reader::field_at))]
 pub fn field_at(s: &[u8], at: usize) -> Field
     ensures { result ≡ field_at s.now at }
 {

@@ -40,6 +40,7 @@ pub fn is_done(a: Answer) -> bool
     }
 }
 
+#[tactic(auto, unfolding(replay_lines::specs::Table::word_names, replay_lines::specs::Table::words))]
 fn approval_word(a: Approval) -> usize
     ensures { get_or words result [] ≡ approval_name a }
 {
@@ -51,6 +52,7 @@ fn approval_word(a: Approval) -> usize
     }
 }
 
+#[tactic(auto, unfolding(replay_lines::specs::Table::word_names, replay_lines::specs::Table::words))]
 fn trust_word(t: Trust) -> usize
     ensures { get_or words result [] ≡ trust_name t }
 {
@@ -185,6 +187,7 @@ fn seen_in(a: Answer) -> Seen
     }
 }
 
+#[tactic(auto, unfolding(replay_lines::specs::Table::key_names, replay_lines::specs::Table::keys, replay_lines::specs::Table::word_names, replay_lines::specs::Table::words))]
 fn put_seen(out: &mut [u8], at: usize, s: Seen) -> usize
     ensures { page out.new result ≡ shown s (page out.old at) }
 {

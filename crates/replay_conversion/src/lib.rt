@@ -15,6 +15,7 @@ use replay_lines::fields::Field;
 use replay_lines::key;
 
 // The place of an answer's name among the words.
+#[tactic(auto, unfolding(replay_lines::specs::Table::word_names, replay_lines::specs::Table::words))]
 fn conversion_word(c: Conversion) -> usize
     ensures { get_or words result [] ≡ conversion_name c }
 {

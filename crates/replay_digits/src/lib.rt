@@ -28,6 +28,7 @@ pub enum Laid {
 }
 
 // The value of a digit, up to 15; 16 if it is none.
+#[tactic(auto, unfolding(crate::specs::Digits::digit_of))]
 fn digit(b: u8) -> u8
     ensures { result ≡ digit_of b }
 {

@@ -91,6 +91,7 @@ pub fn put_report(out: &mut [u8], at: usize, a: Answer, r: Report) -> usize
 // ---- the host's list
 
 // /CLASS/
+#[tactic(auto, unfolding(replay_page::specs::Page::text))]
 fn put_class(out: &mut [u8], at: usize, c: TxClass) -> usize
     ensures { page out.new result ≡ text (class_part c) (page out.old at) }
 {

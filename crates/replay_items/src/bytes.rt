@@ -19,6 +19,7 @@ pub fn lent(room: &[u8], a: usize, e: usize) -> &[u8]
 }
 
 // Lays the bytes of the only item with this key down from `at` on, if they fit.
+#[tactic(auto, unfolding(crate::specs::Bytes::bytes_at, crate::specs::Bytes::has_bytes))]
 fn lay(line: &[u8], key: &[u8], form: Written, room: &mut [u8], at: usize) -> LaidValue
     ensures { at + length (bytes_at form key.now line.now) ≤ length room.old → LaidAt form key.now line.now room.old room.new at result }
 {

@@ -10,6 +10,7 @@ use replay_digits::Number;
 use replay_values::{CanId, Data, Flag};
 use state::Settings;
 
+#[tactic(auto, unfolding(crate::specs::Values::small_at))]
 fn small(line: &[u8], key: &[u8]) -> Small
     ensures { result ≡ small_at key.now line.now }
 {
@@ -25,6 +26,7 @@ fn small(line: &[u8], key: &[u8]) -> Small
     }
 }
 
+#[tactic(auto, unfolding(crate::specs::Values::word_at))]
 fn word(line: &[u8], key: &[u8]) -> Word
     ensures { result ≡ word_at key.now line.now }
 {
@@ -40,6 +42,7 @@ fn word(line: &[u8], key: &[u8]) -> Word
     }
 }
 
+#[tactic(auto, unfolding(crate::specs::Values::clock_at))]
 fn clock(line: &[u8]) -> Clock
     ensures { result ≡ clock_at line.now }
 {
@@ -52,6 +55,7 @@ fn clock(line: &[u8]) -> Clock
     Clock { ok: true, value: n }
 }
 
+#[tactic(auto, unfolding(crate::specs::Values::place_at))]
 fn up_to(line: &[u8], key: &[u8], most: u64) -> Place
     ensures { result ≡ place_at most key.now line.now }
 {
@@ -67,6 +71,7 @@ fn up_to(line: &[u8], key: &[u8], most: u64) -> Place
     }
 }
 
+#[tactic(auto, unfolding(crate::specs::Values::switch_at))]
 fn switch(line: &[u8], key: &[u8]) -> Switch
     ensures { result ≡ switch_at key.now line.now }
 {

@@ -23,6 +23,7 @@ pub enum Held {
 #[derive(Clone, Copy)]
 pub struct Shown(pub usize, pub Held);
 
+#[tactic(auto, unfolding(crate::specs::Table::find, crate::specs::Table::key_names, crate::specs::Table::key_of, crate::specs::Table::keys, arrays::specs::Arrays::same_bytes, crate::specs::Table::word_names, crate::specs::Table::word_of, crate::specs::Table::words))]
 pub fn shown_by(a: Answer) -> Shown
     ensures { (get_or words result.0 [] ≡ name_of a) × (result.1 ≡ held_by a) × (eqb result.0 (word_of "25/BadSettings") ≡ is_out_of_range a) }
 {
@@ -75,6 +76,7 @@ pub fn is_out_of_range(a: Answer) -> bool
     s.0 == word::BAD_SETTINGS
 }
 
+#[tactic(auto, unfolding(crate::specs::Table::word_names, crate::specs::Table::words))]
 pub fn kind_word(k: Kind) -> usize
     ensures { get_or words result [] ≡ kind_name k }
 {
@@ -84,6 +86,7 @@ pub fn kind_word(k: Kind) -> usize
     }
 }
 
+#[tactic(auto, unfolding(crate::specs::Table::word_names, crate::specs::Table::words))]
 pub fn status_word(s: Status) -> usize
     ensures { get_or words result [] ≡ status_name s }
 {
@@ -118,6 +121,7 @@ pub fn put_reply(out: &mut [u8], at: usize, s: SessionReply) -> usize
 }
 
 // What stands behind an answer's name.
+#[tactic(auto, unfolding(crate::specs::Table::key_names, crate::specs::Table::keys))]
 fn put_held(out: &mut [u8], at: usize, h: Held) -> usize
     ensures { page out.new result ≡ behind h (page out.old at) }
 {

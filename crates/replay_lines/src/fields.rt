@@ -41,6 +41,7 @@ pub fn put_word(out: &mut [u8], at: usize, n: usize) -> usize
     put_row(out, at, &crate::word::WORDS, n)
 }
 
+#[tactic(auto, unfolding(replay_page::specs::Page::flag, replay_page::specs::Page::item, replay_page::specs::Page::word))]
 pub fn put_field(out: &mut [u8], at: usize, lent: &[u8], f: Field) -> usize
     ensures { page out.new result ≡ put_field lent.now f (page out.old at) }
 {

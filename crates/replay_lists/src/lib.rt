@@ -161,6 +161,7 @@ fn with_flag(id: ShortId, kind: Kind, approval: Flag) -> MethodItem
     }
 }
 
+#[tactic(auto, unfolding(crate::specs::Lists::method_from))]
 fn method_from(id: IdItem, kind: KindItem, approval: Flag) -> MethodItem
     ensures { result ≡ method_from id kind approval }
 {
@@ -223,6 +224,7 @@ fn add_method(all: Methods, one: MethodItem) -> Methods
     out
 }
 
+#[tactic(auto, unfolding(crate::specs::Lists::add_method, crate::specs::Lists::add_methods, replay_script::specs::Places::shown))]
 pub fn methods_of(line: &[u8]) -> Methods
     ensures { result ≡ add_methods no_methods (values_of (ascii "method") (items_of line.now)) }
 {
@@ -254,6 +256,7 @@ fn no_frame() -> FrameItem
     FrameItem { ok: false, frame }
 }
 
+#[tactic(auto, unfolding(crate::specs::Lists::frame_from))]
 fn frame_from(id: CanId, eight: Data) -> FrameItem
     ensures { result ≡ frame_from id eight }
 {
@@ -318,6 +321,7 @@ fn add_frame(all: ProbeFrames, one: FrameItem) -> ProbeFrames
     out
 }
 
+#[tactic(auto, unfolding(crate::specs::Lists::add_frame, crate::specs::Lists::add_frames, replay_script::specs::Places::shown))]
 pub fn frames_of(line: &[u8]) -> ProbeFrames
     ensures { result ≡ add_frames no_frames (values_of (ascii "frame") (items_of line.now)) }
 {

@@ -50,6 +50,7 @@ pub fn flag_in(s: &[u8]) -> Flag
 }
 
 // A CAN id: its kind, and its number in hexadecimal.
+#[tactic(auto, unfolding(crate::specs::Values::id_in))]
 pub fn can_id_in(kind: &[u8], digits: &[u8]) -> CanId
     ensures { result ≡ id_in kind.now digits.now }
 {

@@ -70,6 +70,7 @@ fn begin(core: Core, phone: &[u8], at: usize, clock: u64, mark: Mark) -> Said
 }
 
 // `lent`: some random byte is lent; `gives`: the draw gives a code.
+#[tactic(auto, unfolding(validation::specs::Calls::start, validation::specs::Calls::start_at, validation::specs::Calls::start_checks, state::specs::Checks::checked))]
 pub fn start_validation(
     core: Core,
     phone: &[u8],

@@ -24,6 +24,7 @@ fn submitted(core: Core, phone: &[u8], clock: u64, right: bool, full: bool) -> E
 }
 
 // `text`: the typed bytes are text; `right`: they are the code; `full`: this car's list is full without the session's phone.
+#[tactic(auto, unfolding(validation::specs::Calls::submit, state::specs::Checks::checked))]
 pub fn submit_validation_code(
     core: Core,
     phone: &[u8],

@@ -208,6 +208,7 @@ pub fn is_text(s: &[u8]) -> bool
 }
 
 // Whether s is text and, trimmed and ungrouped, the first n bytes of the code.
+#[tactic(auto, unfolding(crate::specs::Text::right))]
 pub fn is_right(code: [u8; 9], n: usize, s: &[u8]) -> bool
     ensures { result ≡ right code n s.now }
 {

@@ -46,6 +46,7 @@ fn print_verdict(v: Verdict) {
 }
 
 // The value of a digit; what is none counts as 0.
+#[tactic(auto, unfolding(crate::specs::Cases::nibble_of))]
 fn nibble(b: u8) -> u8
     ensures { result ≡ nibble_of b }
 {

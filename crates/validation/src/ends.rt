@@ -35,6 +35,7 @@ pub fn end_session(core: Core, answer: Answer, status: Status, clock: u64) -> Sa
 }
 
 // It ends by itself: its time is over, its car or its method is gone.
+#[tactic(auto, unfolding(crate::specs::Calls::tick))]
 pub fn tick_validation(core: Core, clock: u64) -> Said
     ensures { result ≡ Calls.tick core clock }
 {

@@ -1,0 +1,5 @@
+use Rattle.std.proofs.Common.{arith}
+use Rattle.bench_calls.proofs.least.Goals as goal
+
+pub returns : goal.returns
+returns c = rw c.no_signals-signals.ensures

@@ -1,0 +1,11 @@
+use Rattle.std.proofs.Common.{◌≡◌, ◌-◌, ◌≤◌, refl, ap, arith}
+use Rattle.definition.specs.Gate.{given}
+use Rattle.bench_calls.specs.Rounds.{turns, first, floored}
+use Rattle.bench_calls.proofs.Laws.{run_of, run_after, turn_more, sum_is}
+use Rattle.bench_calls.proofs.timed_floors.Given as goal
+
+abbrev pub invariant-loop-i : goal.invariant-loop-i
+invariant-loop-i l = (l.i ≤ l.n) × (run_of l.g l.sum ≡ turns floored (first l.initial.g) l.i)
+
+abbrev pub decreases-loop-i : goal.decreases-loop-i
+decreases-loop-i l = l.n - l.i

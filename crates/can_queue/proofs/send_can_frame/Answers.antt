@@ -1,0 +1,24 @@
+use borrow.Author.Rules.{rules}
+use borrow.Author.Tests.{lt-ltb, le-ltb, eq-eqb}
+use mathlib.Core.Path.{◌≡◌}
+use native.Mathlib.Numerals.{add-one}
+use native.Mathlib.Omega.{arith}
+use lib.ListN.{length}
+use Rattle.can_queue.proofs.Laws.{sending_looked}
+use Rattle.can_queue.proofs.send_can_frame.Goals as goal
+
+pub returns-then-q-gt15 : goal.returns-then-q-gt15
+returns-then-q-gt15 c =
+    let a = c.args in
+    rw (c.unsent.ensures, sending_looked a.q a.all a.frame a.class a.owner.now, ← c.look_at-x.ensures, c.if-x.true, lt-ltb _ _ c.if-q-gt15.true)
+
+pub returns-then-x : goal.returns-then-x
+returns-then-x c =
+    let a = c.args in
+    let far : length a.all ≡ 16 = search rules in
+    rw (add-one, c.put_record-more.ensures, sending_looked a.q a.all a.frame a.class a.owner.now, ← c.look_at-x.ensures, c.if-x.true, le-ltb _ _ c.if-q-gt15.false, eq-eqb _ _ far)
+
+pub returns : goal.returns
+returns c =
+    let a = c.args in
+    rw (c.unsent-2.ensures, sending_looked a.q a.all a.frame a.class a.owner.now, ← c.look_at-x.ensures, c.if-x.false)

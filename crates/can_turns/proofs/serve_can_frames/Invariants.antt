@@ -1,0 +1,18 @@
+-- The invariant: after i turns the run stands where i turns lead from its beginning.
+use mathlib.Core.Path.{◌≡◌, refl, ◌∙◌}
+use Prim.Native.Nat.{◌≤◌, ◌-◌}
+use native.Mathlib.Omega.{arith}
+use borrow.Author.Rules.{rules}
+use lib.ListN.{length}
+use Rattle.arrays.proofs.Laws.{long_map}
+use Rattle.state.specs.View.{lists_in}
+use Rattle.can_turns.specs.Turns.{Serving, no_turn, turns}
+use Rattle.can_turns.specs.Steps.{run_of}
+use Rattle.can_turns.proofs.Laws.{turns_on, run_ends}
+use Rattle.can_turns.proofs.serve_can_frames.Given as goal
+
+abbrev pub invariant-loop-i : goal.invariant-loop-i
+invariant-loop-i l = (l.i ≤ l.n) × (l.n ≤ 16) × ((x : Serving) → l.initial.s ≡ run_of x → length x.list ≡ 16 → length x.decided ≡ 0 → l.s ≡ run_of (turns (lists_in l.phones) l.clock l.i x))
+
+abbrev pub decreases-loop-i : goal.decreases-loop-i
+decreases-loop-i l = l.n - l.i

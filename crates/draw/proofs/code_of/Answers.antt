@@ -1,0 +1,26 @@
+use borrow.Author.Rules.{rules}
+use mathlib.Core.Path.{◌≡◌, refl, ◌∙◌}
+use mathlib.Core.List.{◌++◌}
+use Prim.Native.Nat.{suc, ◌≤◌, ◌-◌}
+use native.Mathlib.Omega.{arith}
+use lib.ListN.{length, drop, length-set}
+use Rattle.arrays.specs.Arrays.{padded}
+use Rattle.draw.specs.Draw.{digits}
+use Rattle.draw.proofs.Laws.{digits_start, digits_store}
+use Rattle.draw.proofs.code_of.Goals as goal
+
+pub loop-k-init : goal.loop-k-init
+loop-k-init c = (omega arith, c.requires, refl, digits_start c.args.v c.args.n c.requires)
+
+pub loop-k-preserved : goal.loop-k-preserved
+loop-k-preserved c =
+    let at = c.loop-k in
+    let e : suc (at.k - 1) ≡ at.k = omega arith in
+    (omega arith, omega arith, simp length-set at.invariant.2, at.invariant.3 ∙ (rw e at (digits_store at.rest (at.k - 1) at.code (omega arith))))
+
+pub returns : goal.returns
+unfolding digits
+returns c =
+    let at = c.loop-k in
+    let e : at.k ≡ 0 = omega arith in
+    rw (at.invariant.3, e)

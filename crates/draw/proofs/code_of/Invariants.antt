@@ -1,0 +1,17 @@
+-- The invariant: the code is the first k digits of the rest with what stands from k on. Assumes nothing.
+use borrow.Author.Rules.{rules}
+use mathlib.Core.Path.{◌≡◌, refl, ◌∙◌}
+use mathlib.Core.List.{◌++◌}
+use Prim.Native.Nat.{suc, ◌≤◌, ◌-◌}
+use native.Mathlib.Omega.{arith}
+use lib.ListN.{length, drop, length-set}
+use Rattle.arrays.specs.Arrays.{padded}
+use Rattle.draw.specs.Draw.{digits}
+use Rattle.draw.proofs.Laws.{digits_start, digits_store}
+use Rattle.draw.proofs.code_of.Given as goal
+
+abbrev pub invariant-loop-k : goal.invariant-loop-k
+invariant-loop-k l = (l.k ≤ l.n) × (l.n ≤ 9) × (length l.code ≡ 9) × (padded 9 0 (digits l.v l.n) ≡ digits l.rest l.k ++ drop l.k l.code)
+
+abbrev pub decreases-loop-k : goal.decreases-loop-k
+decreases-loop-k l = l.k

@@ -1,0 +1,23 @@
+-- The invariant: what is left of the first i cars lies in the first k places.
+use mathlib.Core.Path.{◌≡◌}
+use mathlib.Core.List.{List, [], ◌∷◌, ◌++◌}
+use Prim.Native.Nat.{◌≤◌, ◌-◌}
+use native.Mathlib.Omega.{arith}
+use borrow.Author.Rules.{rules}
+use lib.ListN.{length, drop, get_or}
+use Rattle.arrays.proofs.Laws.{long_map}
+use Rattle.phones.specs.Phones.{phones_of}
+use Rattle.saved_record.specs.SavedRecord.{CarIds}
+use Rattle.saved_record.specs.Store.{car_of}
+use Rattle.saved_record.proofs.Laws.{past_cars, used, used_clamped}
+use Rattle.validations.specs.Store.{with_phones, with_some, under_every}
+use Rattle.validations.proofs.Laws.{no_car_lem, Gathered, gathered_none, gathered_all}
+use Rattle.forget_validations.proofs.Laws.{every_some, every_none}
+use Rattle.phones.specs.Ids.{retain_in}
+use Rattle.forget_validations.proofs.with_paired.Given as goal
+
+abbrev pub invariant-loop-i : goal.invariant-loop-i
+invariant-loop-i l = ((done : List CarIds) × Gathered (under_every (retain_in (phones_of l.paired)) (used l.n l.cars)) l.left l.k done (under_every (retain_in (phones_of l.paired)) (drop l.i (used l.n l.cars)))) × (l.n ≤ length l.cars) × (length l.cars ≡ 4) × (l.k ≤ l.i)
+
+abbrev pub decreases-loop-i : goal.decreases-loop-i
+decreases-loop-i l = l.n - l.i

@@ -1,0 +1,10 @@
+use Rattle.outcomes.specs.Served.{listed_on}
+use Rattle.gate_phones.proofs.restored.Goals as goal
+
+pub returns-then-in_range : goal.returns-then-in_range
+unfolding listed_on
+returns-then-in_range c = rw (← c.in_range.ensures, c.if-in_range.true, ← c.restore_phone_validations.ensures)
+
+pub returns : goal.returns
+unfolding listed_on
+returns c = rw (← c.in_range.ensures, c.if-in_range.false, ← c.lists_out_of_range.ensures)

@@ -1,0 +1,15 @@
+-- The ids that are in the other list are marked.
+use mathlib.Core.Path.{◌≡◌}
+use borrow.Author.Rules.{rules}
+use lib.ListN.{length}
+use Rattle.phones.specs.Phones.{phones_of}
+use Rattle.list_removals.proofs.Moving.{whole}
+use Rattle.list_removals.proofs.Marks.{retain_marks}
+use Rattle.list_removals.proofs.retain_in.Goals as goal
+
+pub returns : goal.returns
+unfolding phones_of
+returns c =
+    let a = c.args in
+    let far : length a.t1.bytes ≡ 1024 = search rules in
+    rw (retain_marks (phones_of a.t2) (phones_of a.t1), ← c.shared-keep.ensures) (rw (whole a.t1 far) at c.compacted.ensures)

@@ -1,0 +1,59 @@
+use mathlib.Core.Path.{◌≡◌, ap, ◌∙◌}
+use mathlib.Core.Bool.{Bool}
+use mathlib.Core.List.{List}
+use Prim.Native.Nat.{ℕ, ◌-◌}
+use native.Mathlib.Omega.{arith}
+use borrow.Author.Rules.{rules}
+use lib.ListN.{length, take}
+use lib.Seq.{take_all}
+use Rattle.phones.specs.Ids.{contains}
+use Rattle.phones.specs.Phones.{ids_in}
+use Rattle.list_removals.specs.Marks.{marked}
+use Rattle.phones.proofs.Walk.{Walk, walk_none, walk_here, walk_on}
+use Rattle.list_removals.proofs.Turns.{next_fits, index, closer, begins}
+use Rattle.list_removals.proofs.Marks.{marked_none, marked_more}
+use Rattle.list_removals.proofs.shared.Goals as goal
+
+pub loop-i-init : goal.loop-i-init
+loop-i-init c =
+    let far : length c.args.t2 ≡ 32 = search rules in
+    (walk_none _ _ _ _ far c.clamp-n.ensures, marked_none _)
+
+pub bounds-lens-i : goal.bounds-lens-i
+bounds-lens-i c = index _ _ c.loop-i-test.true c.loop-i.invariant.0.few
+
+pub overflow_sub-bytes : goal.overflow_sub-bytes
+overflow_sub-bytes c = c.loop-i.invariant.0.within
+
+pub slice_bounds-found-count : goal.slice_bounds-found-count
+slice_bounds-found-count c = begins _ _
+
+pub slice_bounds-found-start : goal.slice_bounds-found-start
+slice_bounds-found-start c = begins _ _
+
+pub bounds-keep-i : goal.bounds-keep-i
+bounds-keep-i c = index _ _ c.loop-i-test.true c.loop-i.invariant.0.few
+
+pub overflow_add-i : goal.overflow_add-i
+overflow_add-i c = next_fits _ _ c.loop-i-test.true c.loop-i.invariant.0.few
+
+pub loop-i-smaller : goal.loop-i-smaller
+loop-i-smaller c = closer _ _ c.loop-i-test.true
+
+pub loop-i-preserved : goal.loop-i-preserved
+loop-i-preserved c =
+    let a = c.args in
+    let loop = c.loop-i in
+    let cut = c.part.ensures.0 in
+    let is = walk_here _ _ _ _ _ _ _ loop.invariant.0 (omega arith) cut in
+    let f : List ℕ → Bool = λ p. contains p (ids_in (take a.their-count a.their-lens) a.theirs.now) in (
+      walk_on _ _ _ _ _ _ _ loop.invariant.0 (omega arith) cut,
+      marked_more f _ _ _ _ loop.invariant.1 (omega arith) (omega arith) (c.found.ensures ∙ ap f is),
+    )
+
+pub returns : goal.returns
+returns c =
+    let a = c.args in
+    let loop = c.loop-i in
+    loop.invariant.1
+    ∙ ap (marked (λ (p : List ℕ). contains p (ids_in (take a.their-count a.their-lens) a.theirs.now))) (take_all loop.i (ids_in (take a.count a.t2) a.bytes.now) (omega arith))

@@ -1,0 +1,7 @@
+use Rattle.frame_lines.specs.Walk.{lay}
+use borrow.Author.Rules.{rules}
+use Rattle.match_logs.proofs.texts.put_over.Goals as goal
+
+pub returns : goal.returns
+unfolding lay
+returns c = rw (← c.put_text-k.ensures, ← c.put_log.ensures)

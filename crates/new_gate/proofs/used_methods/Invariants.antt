@@ -1,0 +1,17 @@
+-- The invariant: the first i methods are there, clean, then methods without an id.
+use mathlib.Core.Path.{◌≡◌, refl, ◌∙◌}
+use mathlib.Core.List.{map}
+use Prim.Native.Nat.{◌≤◌, ◌-◌}
+use lib.ListN.{length, take, length-set, length-map, get_or-map}
+use borrow.Author.Rules.{rules}
+use native.Mathlib.Omega.{arith}
+use Rattle.arrays.specs.Arrays.{padded}
+use Rattle.arrays.proofs.Laws.{copy_step, copy_end, long_map}
+use Rattle.state.specs.Running.{no_method, clean_method, past_methods}
+use Rattle.new_gate.proofs.used_methods.Given as goal
+
+abbrev pub invariant-loop-i : goal.invariant-loop-i
+invariant-loop-i l = (l.i ≤ 8) × (l.i ≤ l.count) × (length l.list ≡ 8) × (length l.kept ≡ 8) × (l.kept ≡ padded 8 no_method (take l.i (map clean_method l.list)))
+
+abbrev pub decreases-loop-i : goal.decreases-loop-i
+decreases-loop-i l = 8 - l.i

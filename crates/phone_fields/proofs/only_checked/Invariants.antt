@@ -1,0 +1,16 @@
+-- The loop's invariant: what is left to read from what remains gives the answer. The measure is what is left to read.
+use borrow.Author.Rules.{rules}
+use mathlib.Core.Path.{◌≡◌, refl, sym, ◌∙◌}
+use native.Mathlib.Omega.{arith}
+use Rattle.phone_fields.specs.PhoneFields.{read_fields}
+use Rattle.phone_fields.specs.Steps.{only_checked}
+use Rattle.phone_fields.proofs.Reading.{first_fits, read_all, read_none, checked_step, tail_length}
+use lib.ListN.{length}
+use Prim.Native.Nat.{◌≤◌, ◌+◌}
+use Rattle.phone_fields.proofs.only_checked.Given as goal
+
+abbrev pub invariant-loop-left : goal.invariant-loop-left
+invariant-loop-left l = (length l.rest ≤ length l.part) × (only_checked l.total (read_fields l.count l.part) ≡ only_checked l.total (read_fields l.left l.rest))
+
+abbrev pub decreases-loop-left : goal.decreases-loop-left
+decreases-loop-left l = l.left

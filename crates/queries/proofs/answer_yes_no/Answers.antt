@@ -1,0 +1,10 @@
+use Rattle.answers.specs.Answers as Answers
+use Rattle.queries.proofs.answer_yes_no.Goals as goal
+
+pub returns-then-in_range : goal.returns-then-in_range
+unfolding Answers.if_in_range
+returns-then-in_range c = rw (c.yes_no.ensures, ← c.in_range.ensures, c.if-in_range.true)
+
+pub returns : goal.returns
+unfolding Answers.if_in_range
+returns c = rw (← c.in_range.ensures, c.if-in_range.false)

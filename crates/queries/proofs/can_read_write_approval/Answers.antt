@@ -1,0 +1,13 @@
+use Rattle.answers.specs.Answers.{approval_answer}
+use Rattle.state.specs.View.{view}
+use Rattle.answers.specs.Query.{can_read_write_approval, answer_to}
+use Rattle.definition.proofs.Asked.{by_query}
+use Rattle.queries.proofs.can_read_write_approval.Goals as goal
+
+pub returns-then-in_range : goal.returns-then-in_range
+unfolding answer_to view approval_answer
+returns-then-in_range c = let a = c.args in by_query a.g can_read_write_approval _ (rw (c.can_read_write_approval-found.ensures, ← c.in_range.ensures, c.if-in_range.true))
+
+pub returns : goal.returns
+unfolding answer_to view approval_answer
+returns c = let a = c.args in by_query a.g can_read_write_approval _ (rw (← c.in_range.ensures, c.if-in_range.false))

@@ -1,0 +1,13 @@
+use Rattle.answers.specs.Answers.{phone_access_answer}
+use Rattle.state.specs.View.{view}
+use Rattle.answers.specs.Query.{phone_access_state, answer_to}
+use Rattle.definition.proofs.Asked.{by_query}
+use Rattle.queries.proofs.phone_access_state.Goals as goal
+
+pub returns-then-in_range : goal.returns-then-in_range
+unfolding answer_to view phone_access_answer
+returns-then-in_range c = let a = c.args in by_query a.g (phone_access_state a.clock) _ (rw (c.phone_access_of.ensures, ← c.in_range.ensures, c.if-in_range.true))
+
+pub returns : goal.returns
+unfolding answer_to view phone_access_answer
+returns c = let a = c.args in by_query a.g (phone_access_state a.clock) _ (rw (c.no_access.ensures, ← c.in_range.ensures, c.if-in_range.false))

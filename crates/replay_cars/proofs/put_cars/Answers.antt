@@ -1,0 +1,52 @@
+use mathlib.Core.Path.{◌≡◌, refl, sym, ◌∙◌}
+use Prim.Native.Nat.{◌≤◌, ◌-◌}
+use native.Mathlib.Omega.{arith}
+use borrow.Author.Rules.{rules}
+use lib.ListN.{length, drop}
+use Rattle.arrays.proofs.Laws.{long_map}
+use Rattle.saved_record.proofs.Laws.{used, used_clamped, used_length}
+use Rattle.replay_page.specs.Page.{page}
+use Rattle.replay_cars.specs.Cars.{each_car}
+use Rattle.replay_cars.proofs.Laws.{no_cars, some_cars, cars_again, cars_end}
+use Rattle.replay_cars.proofs.put_cars.Goals as goal
+
+pub shape_of-out-then-n-eq0 : goal.shape_of-out-then-n-eq0
+shape_of-out-then-n-eq0 c = c.put_no_car.auto.0
+
+pub returns-then-n-eq0 : goal.returns-then-n-eq0
+returns-then-n-eq0 c =
+    let a = c.args in
+    let n = c.clamp_cars-n in
+    let far : length a.s.cars ≡ 4 = search (rules, long_map) in
+    let many = used_length n.result a.s.cars (omega arith) in
+    c.put_no_car.ensures
+    ∙ rw (← used_clamped a.s n.result far n.ensures) (no_cars (used n.result a.s.cars) (page a.out.now a.at) (many ∙ c.if-n-eq0.true))
+
+pub loop-i-init : goal.loop-i-init
+loop-i-init c =
+    let far : length c.args.s.cars ≡ 4 = search (rules, long_map) in
+    (omega arith, far, refl, refl)
+
+pub loop-i-preserved : goal.loop-i-preserved
+loop-i-preserved c =
+    let a = c.args in
+    let n = c.clamp_cars-n.result in
+    let loop = c.loop-i in
+    let put = c.put_car-k in (
+      loop.invariant.0,
+      loop.invariant.1,
+      put.auto.0 ∙ loop.invariant.2,
+      cars_again n a.s.cars loop.invariant.0 loop.i (page a.out.now a.at) (page loop.out loop.k) loop.invariant.3 (page put.new.0 put.result) c.loop-i-test.true put.ensures,
+    )
+
+pub shape_of-out : goal.shape_of-out
+shape_of-out c = c.loop-i.invariant.2
+
+pub returns : goal.returns
+returns c =
+    let a = c.args in
+    let n = c.clamp_cars-n in
+    let loop = c.loop-i in
+    let many = used_length n.result a.s.cars loop.invariant.0 in
+    cars_end n.result a.s.cars loop.invariant.0 loop.i (page a.out.now a.at) (page loop.out loop.k) loop.invariant.3 c.loop-i-test.false
+    ∙ rw (← used_clamped a.s n.result loop.invariant.1 n.ensures) (some_cars (used n.result a.s.cars) (page a.out.now a.at) (λ z. c.if-n-eq0.false (sym many ∙ z)))

@@ -1,0 +1,8 @@
+use mathlib.Core.Path.{refl, sym}
+use native.Mathlib.Nat.{zero-add}
+use borrow.Author.Rules.{rules}
+use Rattle.replay_page.proofs.Laws.{front}
+use Rattle.replay_lines.proofs.lent.copy_of.Goals as goal
+
+pub returns : goal.returns
+returns c = front 8192 _ _ c.args.lent.now c.requires (sym (zero-add _)) c.put.ensures

@@ -1,0 +1,67 @@
+use borrow.Author.Rules.{rules}
+use mathlib.Core.Path.{sym}
+use native.Mathlib.Omega.{arith}
+use lib.Seq.{length-take-le}
+use Rattle.replay_lists.specs.Lists.{method_in, cut_at}
+use Rattle.replay_lists.proofs.method_in.Goals as goal
+
+pub slice_bounds-method_id-end : goal.slice_bounds-method_id-end
+unfolding cut_at method_in
+slice_bounds-method_id-end c =
+    let v = c.args.v.now in
+    let s = c.slashes_of-c in
+    let ok = c.if-c.true in
+    sym (length-take-le s.result.one v (omega (arith, s.ensures.first ok, s.ensures.second ok)))
+
+pub overflow_add-one : goal.overflow_add-one
+unfolding cut_at method_in
+overflow_add-one c = let s = c.slashes_of-c.ensures in let ok = c.if-c.true in omega (arith, s.first ok, s.second ok)
+
+pub slice_bounds-kind_in-count : goal.slice_bounds-kind_in-count
+unfolding cut_at method_in
+slice_bounds-kind_in-count c = let s = c.slashes_of-c.ensures in let ok = c.if-c.true in omega (arith, s.first ok, s.second ok)
+
+pub slice_bounds-kind_in-start : goal.slice_bounds-kind_in-start
+unfolding cut_at method_in
+slice_bounds-kind_in-start c = let s = c.slashes_of-c.ensures in let ok = c.if-c.true in omega (arith, s.first ok, s.second ok)
+
+pub slice_bounds-kind_in-end : goal.slice_bounds-kind_in-end
+unfolding cut_at method_in
+slice_bounds-kind_in-end c = let s = c.slashes_of-c.ensures in let ok = c.if-c.true in omega (arith, s.first ok, s.second ok)
+
+pub overflow_add-two : goal.overflow_add-two
+unfolding cut_at method_in
+overflow_add-two c =
+    let s = c.slashes_of-c.ensures in
+    let ok = c.if-c.true in
+    omega (arith, s.first ok, s.second ok)
+
+pub slice_bounds-flag_in-count : goal.slice_bounds-flag_in-count
+unfolding cut_at method_in
+slice_bounds-flag_in-count c =
+    let s = c.slashes_of-c.ensures in
+    let ok = c.if-c.true in
+    omega (arith, s.first ok, s.second ok)
+
+pub slice_bounds-flag_in-start : goal.slice_bounds-flag_in-start
+unfolding cut_at method_in
+slice_bounds-flag_in-start c =
+    let s = c.slashes_of-c.ensures in
+    let ok = c.if-c.true in
+    omega (arith, s.first ok, s.second ok)
+
+pub slice_bounds-flag_in-end : goal.slice_bounds-flag_in-end
+unfolding cut_at method_in
+slice_bounds-flag_in-end c = search rules
+
+pub returns-then-c : goal.returns-then-c
+unfolding cut_at method_in
+returns-then-c c =
+    let parts = c.slashes_of-c.ensures.parts in
+    let ok = c.if-c.true in
+    let id = c.method_id-id in
+    rw (parts, ok, ← id.ensures, ← c.kind_in-kind.ensures, ← c.flag_in-approval.ensures, ← c.method_from.ensures)
+
+pub returns : goal.returns
+unfolding cut_at method_in
+returns c = rw (c.slashes_of-c.ensures.parts, c.if-c.false, ← c.no_method.ensures)

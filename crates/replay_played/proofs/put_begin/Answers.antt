@@ -1,0 +1,7 @@
+use Rattle.replay_played.specs.Played.{begun}
+use borrow.Author.Rules.{rules}
+use Rattle.replay_played.proofs.put_begin.Goals as goal
+
+pub returns : goal.returns
+unfolding begun
+returns c = rw (← c.put_item-k.ensures, ← c.put_text-k.ensures, ← c.put_text.ensures)

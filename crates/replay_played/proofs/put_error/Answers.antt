@@ -1,0 +1,12 @@
+use Rattle.replay_page.specs.Page.{text}
+use Rattle.replay_played.specs.Played.{error_of}
+use borrow.Author.Rules.{rules}
+use Rattle.replay_played.proofs.put_error.Goals as goal
+
+pub returns-then-is_name : goal.returns-then-is_name
+unfolding text error_of
+returns-then-is_name c = rw (← c.is_name.ensures, c.if-is_name.true, ← c.put_text.ensures)
+
+pub returns : goal.returns
+unfolding text error_of
+returns c = rw (← c.is_name.ensures, c.if-is_name.false, ← c.put_text-2.ensures)

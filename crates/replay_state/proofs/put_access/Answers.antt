@@ -1,0 +1,18 @@
+-- The fields of the array are those of the definition, which antt computes.
+use borrow.Author.Rules.{rules}
+use Rattle.replay_lines.specs.Table.{keys, key_names}
+use Rattle.replay_lines.specs.Fields.{put_fields}
+use Rattle.replay_state.specs.Whole.{access}
+use Rattle.replay_state.proofs.put_access.Goals as goal
+
+pub slice_bounds-put_fields-end : goal.slice_bounds-put_fields-end
+unfolding access key_names keys put_fields
+slice_bounds-put_fields-end c = search rules
+
+pub shape_of-out : goal.shape_of-out
+unfolding access key_names keys put_fields
+shape_of-out c = search rules
+
+pub returns : goal.returns
+unfolding access key_names keys put_fields
+returns c = c.put_fields.ensures

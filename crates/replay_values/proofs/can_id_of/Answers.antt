@@ -1,0 +1,6 @@
+use borrow.Author.Rules.{rules}
+use Rattle.replay_values.proofs.Laws.{id_first}
+use Rattle.replay_values.proofs.can_id_of.Goals as goal
+
+pub returns : goal.returns
+returns c = rw (c.can_id_in.ensures, c.value.ensures, c.value-kind.ensures) (id_first _ _)

@@ -1,0 +1,6 @@
+use borrow.Author.Rules.{rules}
+use Rattle.replay_values.proofs.Laws.{flag_first}
+use Rattle.replay_values.proofs.flag_of.Goals as goal
+
+pub returns : goal.returns
+returns c = rw (c.flag_in.ensures, c.value.ensures) (flag_first _)

@@ -1,0 +1,11 @@
+-- The invariant: s is the hash value after i blocks.
+use Rattle.std.proofs.Common.{◌≡◌, ℕ, ◌-◌, ◌/◌, ◌≤◌, length, refl, ap, ◌∙◌, arith}
+use Rattle.sha256.specs.Sha256.{hash_from}
+use Rattle.sha256.proofs.Pieces.{block_is}
+use Rattle.sha256.proofs.hash_blocks.Given as goal
+
+abbrev pub invariant-loop-i : goal.invariant-loop-i
+invariant-loop-i l = (l.i ≤ l.n) × (l.s ≡ hash_from l.initial.s l.m l.i)
+
+abbrev pub decreases-loop-i : goal.decreases-loop-i
+decreases-loop-i l = l.n - l.i

@@ -1,0 +1,6 @@
+-- `block::round` meets its contract.
+use Rattle.std.proofs.Common.{rules}
+use Rattle.sha256_block.proofs.round.Goals as goal
+
+pub returns : goal.returns
+returns c = rw (c.add-2.ensures, c.add.ensures, c.temp2-t2.ensures, c.temp1-t1.ensures)

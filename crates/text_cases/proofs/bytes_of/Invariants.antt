@@ -1,0 +1,15 @@
+-- The invariant: the first i bytes are written.
+use mathlib.Core.Path.{◌≡◌, refl, ap, ◌∙◌}
+use Prim.Native.Nat.{ℕ, ◌+◌, ◌*◌, ◌-◌, ◌≤◌}
+use native.Mathlib.Omega.{arith}
+use lib.ListN.{length, get_or, length-set}
+use Rattle.arrays.specs.Arrays.{padded}
+use Rattle.text_cases.specs.Cases.{byte_at, pairs_in, bytes_of}
+use Rattle.text_cases.proofs.Laws.{nibble_small, pairs_fit, bytes_turn}
+use Rattle.text_cases.proofs.bytes_of.Given as goal
+
+abbrev pub invariant-loop-i : goal.invariant-loop-i
+invariant-loop-i l = (l.i ≤ l.n) × (l.n ≤ 32) × (2 * l.n ≤ length l.line) × (length l.bytes ≡ 32) × (l.bytes ≡ padded 32 0 (bytes_of l.line l.i))
+
+abbrev pub decreases-loop-i : goal.decreases-loop-i
+decreases-loop-i l = l.n - l.i

@@ -1,0 +1,19 @@
+-- The invariant: the cars from the first place up to i lie in the first k places.
+use mathlib.Core.Path.{◌≡◌}
+use mathlib.Core.List.{List, [], ◌∷◌, ◌++◌}
+use Prim.Native.Nat.{◌+◌, ◌≤◌, ◌-◌}
+use native.Mathlib.Omega.{arith}
+use borrow.Author.Rules.{rules}
+use lib.ListN.{length, drop, get_or}
+use Rattle.arrays.proofs.Laws.{long_map}
+use Rattle.saved_record.specs.SavedRecord.{CarIds}
+use Rattle.saved_record.specs.Store.{car_of}
+use Rattle.saved_record.proofs.Laws.{past_cars, used, used_clamped}
+use Rattle.validations.proofs.Laws.{next_car, no_car_lem, Gathered, gathered_none, gathered_more, gathered_all}
+use Rattle.validations.proofs.laid_from.Given as goal
+
+abbrev pub invariant-loop-i : goal.invariant-loop-i
+invariant-loop-i l = ((done : List CarIds) × Gathered (drop l.from (used l.n l.cars)) l.left l.k done (drop l.i (used l.n l.cars))) × (l.n ≤ length l.cars) × (length l.cars ≡ 4) × (l.i ≡ l.from + l.k)
+
+abbrev pub decreases-loop-i : goal.decreases-loop-i
+decreases-loop-i l = l.n - l.i
