@@ -54,10 +54,6 @@ put_phones-requires c =
     let j = v.auto.0 in
     rw (n, (car_walk c.args.saved.now c.args.from (car_of c.args.c) (car c) c.requires.0).0) (omega arith)
 
-pub shape_of-dst : goal.shape_of-dst
-unfolding car_of
-shape_of-dst c = search rules
-
 pub returns : goal.returns
 unfolding car_of
 returns c =

@@ -26,15 +26,6 @@ slice_bounds-put_hex_line-start c = let i = inside c in omega arith
 pub slice_bounds-put_hex_line-end-in-Whole : goal.slice_bounds-put_hex_line-end-in-Whole
 slice_bounds-put_hex_line-end-in-Whole c = let i = inside c in omega arith
 
-pub shape_of-dst-in-Short : goal.shape_of-dst-in-Short
-shape_of-dst-in-Short c = c.loop-left.invariant.going.size
-
-pub shape_of-dst-in-End : goal.shape_of-dst-in-End
-shape_of-dst-in-End c = c.loop-left.invariant.going.size
-
-pub shape_of-dst : goal.shape_of-dst
-shape_of-dst c = c.loop-left.invariant.going.size
-
 pub returns : goal.returns
 returns c =
     let a = c.args in

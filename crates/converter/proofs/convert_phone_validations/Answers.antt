@@ -24,10 +24,6 @@ pub enum_told-in-TooLarge : goal.enum_told-in-TooLarge
 unfolding refusal
 enum_told-in-TooLarge c = search rules
 
-pub shape_of-out : goal.shape_of-out
-unfolding refusal
-shape_of-out c = search rules
-
 pub returns-in-Restored : goal.returns-in-Restored
 unfolding refusal
 returns-in-Restored c = search rules

@@ -16,10 +16,6 @@ pub put_record-requires : goal.put_record-requires
 unfolding refusal
 put_record-requires c = let z = sized c in let k = z.long in let l = z.longer c.if-version-eq1.true in (omega arith, omega arith)
 
-pub shape_of-out-then-version-eq1 : goal.shape_of-out-then-version-eq1
-unfolding refusal
-shape_of-out-then-version-eq1 c = search rules
-
 pub returns-then-version-eq1 : goal.returns-then-version-eq1
 unfolding refusal
 returns-then-version-eq1 c = rw (c.if-two.true, c.put_record.ensures, one_as_two c.args.saved.now c.args.cars c.requires c.if-version-eq1.true c.args.out.now)
@@ -27,10 +23,6 @@ returns-then-version-eq1 c = rw (c.if-two.true, c.put_record.ensures, one_as_two
 pub put_record-requires-then-two : goal.put_record-requires-then-two
 unfolding refusal
 put_record-requires-then-two c = let z = sized c in let k = z.long in let l = z.short in (omega arith, omega arith)
-
-pub shape_of-out-then-two : goal.shape_of-out-then-two
-unfolding refusal
-shape_of-out-then-two c = search rules
 
 pub returns-then-two : goal.returns-then-two
 unfolding refusal
@@ -44,10 +36,6 @@ pub put_record-requires-then-version-eq1-2 : goal.put_record-requires-then-versi
 unfolding refusal
 put_record-requires-then-version-eq1-2 c = let z = sized c in let k = z.long in let l = z.short in (omega arith, omega arith)
 
-pub shape_of-out-then-version-eq1-2 : goal.shape_of-out-then-version-eq1-2
-unfolding refusal
-shape_of-out-then-version-eq1-2 c = search rules
-
 pub returns-then-version-eq1-2 : goal.returns-then-version-eq1-2
 unfolding refusal
 returns-then-version-eq1-2 c = rw (c.if-two.false, c.put_record-then-version-eq1-2.ensures, one_as_one c.args.saved.now c.args.cars c.requires c.if-version-eq1-2.true c.args.out.now)
@@ -55,10 +43,6 @@ returns-then-version-eq1-2 c = rw (c.if-two.false, c.put_record-then-version-eq1
 pub put_record-requires-2 : goal.put_record-requires-2
 unfolding refusal
 put_record-requires-2 c = let z = sized c in let k = z.long in let l = z.short in (omega arith, omega arith)
-
-pub shape_of-out : goal.shape_of-out
-unfolding refusal
-shape_of-out c = search rules
 
 pub returns : goal.returns
 unfolding refusal

@@ -43,10 +43,6 @@ pub put-requires-2 : goal.put-requires-2
 unfolding laid_down
 put-requires-2 c = search rules
 
-pub shape_of-out : goal.shape_of-out
-unfolding laid_down
-shape_of-out c = search rules
-
 pub returns : goal.returns
 unfolding laid_down
 returns c =

@@ -48,10 +48,6 @@ pub put_fields-requires : goal.put_fields-requires
 unfolding car_of
 put_fields-requires c = let fits = room c in rw length-set (omega arith)
 
-pub shape_of-out : goal.shape_of-out
-unfolding car_of
-shape_of-out c = c.put_fields.auto.1.0 ∙ length-set c.put.new.0 (c.args.at + 32) c.count-n.result ∙ c.put.auto.0
-
 pub returns : goal.returns
 unfolding car_of
 returns c =

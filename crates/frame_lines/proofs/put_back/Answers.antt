@@ -8,10 +8,6 @@ pub overflow_cast-f : goal.overflow_cast-f
 unfolding item lay
 overflow_cast-f c = search rules
 
-pub shape_of-out : goal.shape_of-out
-unfolding item lay
-shape_of-out c = c.put_text.auto.0 ∙ (c.put_data-k.auto.0 ∙ (c.put_text-k.auto.0 ∙ c.put_item-k.auto.0))
-
 pub returns : goal.returns
 unfolding item lay
 returns c = rw (c.put_text.ensures, c.put_data-k.ensures, c.put_text-k.ensures, c.put_item-k.ensures)

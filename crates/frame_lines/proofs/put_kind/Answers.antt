@@ -20,11 +20,3 @@ enum_told-in-Extended c = search rules
 pub put_text-requires-in-Extended : goal.put_text-requires-in-Extended
 unfolding text
 put_text-requires-in-Extended c = search rules
-
-pub shape_of-out-in-Standard : goal.shape_of-out-in-Standard
-unfolding text
-shape_of-out-in-Standard c = search rules
-
-pub shape_of-out-in-Extended : goal.shape_of-out-in-Extended
-unfolding text
-shape_of-out-in-Extended c = search rules

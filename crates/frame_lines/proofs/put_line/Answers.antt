@@ -10,9 +10,6 @@ use Rattle.frame_lines.proofs.Pages.{line_laid}
 use borrow.Author.Rules.{rules}
 use Rattle.frame_lines.proofs.put_line.Goals as goal
 
-pub shape_of-out : goal.shape_of-out
-shape_of-out c = c.put_back.auto.0 ∙ (c.put_hexadecimal-k.auto.0 ∙ c.put_front-k.auto.0)
-
 pub returns : goal.returns
 returns c =
     let a = c.args in

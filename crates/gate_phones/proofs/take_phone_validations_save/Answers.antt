@@ -3,10 +3,6 @@ use Rattle.definition.specs.Gate.{take_phone_validations_save, saving, bytes}
 use Rattle.outcomes.proofs.Laws.{lent_as_lem, by_save}
 use Rattle.gate_phones.proofs.take_phone_validations_save.Goals as goal
 
-pub shape_of-out : goal.shape_of-out
-unfolding saving
-shape_of-out c = search rules
-
 pub returns : goal.returns
 unfolding saving
 returns c =

@@ -4,10 +4,6 @@ use Rattle.state.specs.View.{view}
 use Rattle.outcomes.specs.Served.{kept_on}
 use Rattle.gate_phones.proofs.taken.Goals as goal
 
-pub shape_of-out-then-in_range : goal.shape_of-out-then-in_range
-unfolding kept_on view
-shape_of-out-then-in_range c = search rules
-
 pub returns-then-in_range : goal.returns-then-in_range
 unfolding kept_on view
 returns-then-in_range c = rw (← c.in_range.ensures, c.if-in_range.true) c.take_phone_validations_save.ensures

@@ -8,9 +8,6 @@ use Rattle.input.proofs.read_input.Goals as goal
 pub loop-n-init : goal.loop-n-init
 loop-n-init c = (omega arith, refl)
 
-pub shape_of-buf-then-got-lt0 : goal.shape_of-buf-then-got-lt0
-shape_of-buf-then-got-lt0 c = same_len_mid c.loop-n.n (length c.loop-n.buf - c.loop-n.n) c.loop-n.buf c.read-got.new.1.0 c.read-got.auto.1.0 ∙ c.loop-n.invariant.1
-
 pub slice_bounds-count-count : goal.slice_bounds-count-count
 slice_bounds-count-count c = omega (arith, same_len_mid c.loop-n.n (length c.loop-n.buf - c.loop-n.n) c.loop-n.buf c.read-got.new.1.0 c.read-got.auto.1.0)
 
@@ -19,9 +16,6 @@ slice_bounds-count-start c = omega (arith, same_len_mid c.loop-n.n (length c.loo
 
 pub slice_bounds-count-end : goal.slice_bounds-count-end
 slice_bounds-count-end c = omega (arith, same_len_mid c.loop-n.n (length c.loop-n.buf - c.loop-n.n) c.loop-n.buf c.read-got.new.1.0 c.read-got.auto.1.0)
-
-pub shape_of-buf-then-more-eq0 : goal.shape_of-buf-then-more-eq0
-shape_of-buf-then-more-eq0 c = same_len_mid c.loop-n.n (length c.loop-n.buf - c.loop-n.n) c.loop-n.buf c.read-got.new.1.0 c.read-got.auto.1.0 ∙ c.loop-n.invariant.1
 
 pub returns-then-more-eq0 : goal.returns-then-more-eq0
 returns-then-more-eq0 c = omega (arith, same_len_mid c.loop-n.n (length c.loop-n.buf - c.loop-n.n) c.loop-n.buf c.read-got.new.1.0 c.read-got.auto.1.0)
@@ -34,6 +28,3 @@ loop-n-smaller c = omega (arith, same_len_mid c.loop-n.n (length c.loop-n.buf - 
 
 pub loop-n-preserved : goal.loop-n-preserved
 loop-n-preserved c = omega (arith, same_len_mid c.loop-n.n (length c.loop-n.buf - c.loop-n.n) c.loop-n.buf c.read-got.new.1.0 c.read-got.auto.1.0)
-
-pub shape_of-buf : goal.shape_of-buf
-shape_of-buf c = c.loop-n.invariant.1

@@ -2,10 +2,6 @@ use Rattle.list_cases.specs.Records.{with_car}
 use Rattle.std.proofs.Common.{rules}
 use Rattle.list_cases.proofs.put_car.Goals as goal
 
-pub shape_of-dst : goal.shape_of-dst
-unfolding with_car
-shape_of-dst c = search rules
-
 pub returns : goal.returns
 unfolding with_car
 returns c = rw (← c.put_digest-from.ensures) c.put_phones.ensures

@@ -2,10 +2,6 @@ use Rattle.list_cases.specs.Records.{with_cars}
 use Rattle.std.proofs.Common.{rules}
 use Rattle.list_cases.proofs.put_cars.Goals as goal
 
-pub shape_of-dst : goal.shape_of-dst
-unfolding with_cars
-shape_of-dst c = search rules
-
 pub returns : goal.returns
 unfolding with_cars
 returns c = rw (← c.put_byte-from.ensures) c.put_byte.ensures

@@ -2,10 +2,6 @@ use Rattle.list_cases.specs.Records.{with_digest}
 use Rattle.std.proofs.Common.{rules}
 use Rattle.list_cases.proofs.put_digest.Goals as goal
 
-pub shape_of-dst : goal.shape_of-dst
-unfolding with_digest
-shape_of-dst c = search rules
-
 pub returns : goal.returns
 unfolding with_digest
 returns c = rw (← c.put_run-end.ensures) c.put_byte.ensures

@@ -9,7 +9,7 @@ use Rattle.list_removals.proofs.compacted.Goals as goal
 
 pub loop-i-init : goal.loop-i-init
 loop-i-init c =
-    let far : length c.args.t2 ≡ 32 = search rules in
+    let far : length c.args.lens ≡ 32 = search rules in
     moving_none _ _ _ _ _ _ far c.clamp-n.ensures c.reach-far.ensures
 
 pub overflow_add-i : goal.overflow_add-i

@@ -7,6 +7,6 @@ use Rattle.list_removals.proofs.keep_where.Goals as goal
 
 pub returns : goal.returns
 returns c =
-    let l = c.args.t1 in
+    let l = c.args.l in
     let far : length l.bytes ≡ 1024 = search rules in
     rw (← whole l far) c.compacted.ensures

@@ -16,7 +16,7 @@ use Rattle.list_removals.proofs.others.Goals as goal
 
 pub loop-i-init : goal.loop-i-init
 loop-i-init c =
-    let far : length c.args.t2 ≡ 32 = search rules in
+    let far : length c.args.lens ≡ 32 = search rules in
     (walk_none _ _ _ _ far c.clamp-n.ensures, marked_none _)
 
 pub bounds-lens-i : goal.bounds-lens-i
@@ -54,4 +54,4 @@ pub returns : goal.returns
 returns c =
     let a = c.args in
     let loop = c.loop-i in
-    loop.invariant.1 ∙ ap (marked (λ (p : List ℕ). not (same_bytes p a.s.now))) (take_all loop.i (ids_in (take a.count a.t2) a.bytes.now) (omega arith))
+    loop.invariant.1 ∙ ap (marked (λ (p : List ℕ). not (same_bytes p a.s.now))) (take_all loop.i (ids_in (take a.count a.lens) a.bytes.now) (omega arith))

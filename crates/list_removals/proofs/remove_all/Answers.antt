@@ -11,5 +11,5 @@ pub returns : goal.returns
 unfolding phones_of
 returns c =
     let a = c.args in
-    let far : length a.t1.bytes ≡ 1024 = search rules in
-    rw (all_marks a.s.now (phones_of a.t1), ← c.others-keep.ensures) (rw (whole a.t1 far) at c.compacted.ensures)
+    let far : length a.l.bytes ≡ 1024 = search rules in
+    rw (all_marks a.s.now (phones_of a.l), ← c.others-keep.ensures) (rw (whole a.l far) at c.compacted.ensures)

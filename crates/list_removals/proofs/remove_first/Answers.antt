@@ -13,7 +13,7 @@ pub returns : goal.returns
 unfolding phones_of
 returns c =
     let a = c.args in
-    let many : length a.t1.lens ≡ 32 = search rules in
-    let few = phones_length a.t1 many in
-    let far : length a.t1.bytes ≡ 1024 = search rules in
-    rw (first_marks a.s.now (phones_of a.t1) (omega arith), ← c.first_at-i.ensures, ← c.all_but-keep.ensures) (rw (whole a.t1 far) at c.compacted.ensures)
+    let many : length a.l.lens ≡ 32 = search rules in
+    let few = phones_length a.l many in
+    let far : length a.l.bytes ≡ 1024 = search rules in
+    rw (first_marks a.s.now (phones_of a.l) (omega arith), ← c.first_at-i.ensures, ← c.all_but-keep.ensures) (rw (whole a.l far) at c.compacted.ensures)

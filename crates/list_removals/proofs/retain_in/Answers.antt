@@ -11,5 +11,5 @@ pub returns : goal.returns
 unfolding phones_of
 returns c =
     let a = c.args in
-    let far : length a.t1.bytes ≡ 1024 = search rules in
-    rw (retain_marks (phones_of a.t2) (phones_of a.t1), ← c.shared-keep.ensures) (rw (whole a.t1 far) at c.compacted.ensures)
+    let far : length a.l.bytes ≡ 1024 = search rules in
+    rw (retain_marks (phones_of a.other) (phones_of a.l), ← c.shared-keep.ensures) (rw (whole a.l far) at c.compacted.ensures)

@@ -16,7 +16,7 @@ use Rattle.list_removals.proofs.shared.Goals as goal
 
 pub loop-i-init : goal.loop-i-init
 loop-i-init c =
-    let far : length c.args.t2 ≡ 32 = search rules in
+    let far : length c.args.lens ≡ 32 = search rules in
     (walk_none _ _ _ _ far c.clamp-n.ensures, marked_none _)
 
 pub bounds-lens-i : goal.bounds-lens-i
@@ -56,4 +56,4 @@ returns c =
     let a = c.args in
     let loop = c.loop-i in
     loop.invariant.1
-    ∙ ap (marked (λ (p : List ℕ). contains p (ids_in (take a.their-count a.their-lens) a.theirs.now))) (take_all loop.i (ids_in (take a.count a.t2) a.bytes.now) (omega arith))
+    ∙ ap (marked (λ (p : List ℕ). contains p (ids_in (take a.their-count a.their-lens) a.theirs.now))) (take_all loop.i (ids_in (take a.count a.lens) a.bytes.now) (omega arith))

@@ -13,7 +13,7 @@ use Rattle.long_answers.proofs.can_start_each.Goals as goal
 pub loop-i-init : goal.loop-i-init
 unfolding padded can_start_from
 loop-i-init c =
-    let far : length c.args.t2 ≡ 8 = search (rules, long_map) in
+    let far : length c.args.list ≡ 8 = search (rules, long_map) in
     (omega arith, omega arith, far, refl, refl)
 
 pub returns-then-count-i : goal.returns-then-count-i
@@ -26,10 +26,10 @@ pub loop-i-preserved : goal.loop-i-preserved
 loop-i-preserved c =
     let loop = c.loop-i in
     let args = c.args in
-    (omega arith, omega arith, loop.invariant.2, simp length-set loop.invariant.3, start_step args.core loop.i loop.out args.t2 loop.invariant.2 loop.invariant.4 c.can_start.result c.can_start.ensures (omega arith))
+    (omega arith, omega arith, loop.invariant.2, simp length-set loop.invariant.3, start_step args.core loop.i loop.out args.list loop.invariant.2 loop.invariant.4 c.can_start.result c.can_start.ensures (omega arith))
 
 pub returns : goal.returns
 returns c =
     let loop = c.loop-i in
     let args = c.args in
-    start_end args.core loop.i loop.out args.t2 loop.invariant.2 loop.invariant.4 args.count (omega arith) (omega arith)
+    start_end args.core loop.i loop.out args.list loop.invariant.2 loop.invariant.4 args.count (omega arith) (omega arith)

@@ -11,7 +11,7 @@ use Rattle.long_answers.proofs.first_digits.Goals as goal
 pub loop-i-init : goal.loop-i-init
 unfolding padded
 loop-i-init c =
-    let far : length c.args.t1 ≡ 9 = search rules in
+    let far : length c.args.held ≡ 9 = search rules in
     (omega arith, omega arith, far, refl, refl)
 
 pub returns-then-n-i : goal.returns-then-n-i
@@ -24,7 +24,7 @@ returns-then-n-i c =
 pub loop-i-preserved : goal.loop-i-preserved
 loop-i-preserved c =
     let loop = c.loop-i in
-    let held = c.args.t1 in
+    let held = c.args.held in
     (omega arith, omega arith, loop.invariant.2, simp length-set loop.invariant.3, copy_step 9 0 loop.i loop.code held loop.invariant.2 loop.invariant.4 0 (omega arith))
 
 pub returns : goal.returns
@@ -32,4 +32,4 @@ unfolding shown_digits
 returns c =
     let loop = c.loop-i in
     let args = c.args in
-    copy_end 9 0 loop.i loop.code args.t1 loop.invariant.2 loop.invariant.4 args.n (omega arith) (omega arith)
+    copy_end 9 0 loop.i loop.code args.held loop.invariant.2 loop.invariant.4 args.n (omega arith) (omega arith)

@@ -12,7 +12,7 @@ pub loop-i-init : goal.loop-i-init
 loop-i-init c =
     let a = c.args in
     let fj : length a.journal.frames ≡ 512 = search (rules, long_map) in
-    let fr : length a.t3.frames ≡ 512 = search (rules, long_map) in
+    let fr : length a.recorder.frames ≡ 512 = search (rules, long_map) in
     (omega arith, fj, fr, length-replicate 512 false, turn_first _ _ 512)
 
 pub first_fit-requires : goal.first_fit-requires
@@ -22,4 +22,4 @@ pub returns : goal.returns
 returns c =
     let a = c.args in
     let loop = c.loop-i in
-    turns_end a.journal a.sent.now a.t3 a.seen.now c.requires.0 c.requires.1 loop.invariant.1 loop.invariant.2 loop.used loop.i (omega arith) loop.invariant.4
+    turns_end a.journal a.sent.now a.recorder a.seen.now c.requires.0 c.requires.1 loop.invariant.1 loop.invariant.2 loop.used loop.i (omega arith) loop.invariant.4

@@ -12,20 +12,20 @@ use Rattle.matcher.proofs.first_fit.Goals as goal
 pub loop-i-init : goal.loop-i-init
 loop-i-init c =
     let a = c.args in
-    let far : length a.t1.frames ≡ 512 = search (rules, long_map) in
+    let far : length a.journal.frames ≡ 512 = search (rules, long_map) in
     (omega arith, far, left_first _ _ _ _)
 
 pub returns-then-can_take : goal.returns-then-can_take
 returns-then-can_take c =
     let loop = c.loop-i in
-    left_found c.args.t1 c.args.sent.now c.args.t3 (entry c.args.seen c.args.f) c.requires loop.invariant.1 loop.i _ _ (omega arith) loop.invariant.2 c.can_take.ensures c.if-can_take.true
+    left_found c.args.journal c.args.sent.now c.args.used (entry c.args.seen c.args.f) c.requires loop.invariant.1 loop.i _ _ (omega arith) loop.invariant.2 c.can_take.ensures c.if-can_take.true
 
 pub loop-i-preserved : goal.loop-i-preserved
 loop-i-preserved c =
     let loop = c.loop-i in
-    (omega arith, loop.invariant.1, left_again c.args.t1 c.args.sent.now c.args.t3 (entry c.args.seen c.args.f) c.requires loop.invariant.1 loop.i _ _ (omega arith) loop.invariant.2 c.can_take.ensures c.if-can_take.false)
+    (omega arith, loop.invariant.1, left_again c.args.journal c.args.sent.now c.args.used (entry c.args.seen c.args.f) c.requires loop.invariant.1 loop.i _ _ (omega arith) loop.invariant.2 c.can_take.ensures c.if-can_take.false)
 
 pub returns : goal.returns
 returns c =
     let loop = c.loop-i in
-    left_end c.args.t1 c.args.sent.now c.args.t3 (entry c.args.seen c.args.f) c.requires loop.invariant.1 loop.i (omega arith) loop.invariant.2
+    left_end c.args.journal c.args.sent.now c.args.used (entry c.args.seen c.args.f) c.requires loop.invariant.1 loop.i (omega arith) loop.invariant.2

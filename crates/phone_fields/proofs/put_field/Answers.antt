@@ -12,9 +12,6 @@ bounds-out-at c = let a = c.args in let l = field_length a.at a.p.now in omega a
 pub put-requires : goal.put-requires
 put-requires c = let a = c.args in let l = field_length a.at a.p.now in rw length-set (omega arith)
 
-pub shape_of-out : goal.shape_of-out
-shape_of-out c = c.put.auto.0 ∙ simp length-set
-
 pub returns : goal.returns
 returns c =
     let l = field_length c.args.at c.args.p.now in

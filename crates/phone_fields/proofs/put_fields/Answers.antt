@@ -11,7 +11,7 @@ use Rattle.phone_fields.proofs.put_fields.Goals as goal
 pub loop-i-init : goal.loop-i-init
 unfolding phones_of
 loop-i-init c =
-    let far : length c.args.t1.lens ≡ 32 = search rules in
+    let far : length c.args.l.lens ≡ 32 = search rules in
     (walk_none _ _ _ _ far c.clamp-n.ensures, written_none _ _ _)
 
 pub put_field-to-requires : goal.put_field-to-requires
@@ -33,10 +33,6 @@ loop-i-preserved c =
       walk_on _ _ _ _ _ _ _ loop.invariant.0 (omega arith) cut.0,
       written_more _ _ _ _ _ _ c.requires loop.invariant.1 _ (omega arith) is _ _ put.ensures.0 put.ensures.1,
     )
-
-pub shape_of-out : goal.shape_of-out
-unfolding phones_of
-shape_of-out c = c.loop-i.invariant.1.long
 
 pub returns : goal.returns
 unfolding phones_of

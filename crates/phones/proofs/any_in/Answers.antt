@@ -14,7 +14,7 @@ use Rattle.phones.proofs.any_in.Goals as goal
 pub loop-i-init : goal.loop-i-init
 unfolding any_in phones_of
 loop-i-init c =
-    let far : length c.args.t1.lens ≡ 32 = search rules in
+    let far : length c.args.l.lens ≡ 32 = search rules in
     (walk_none _ _ _ _ far c.clamp-n.ensures, refl)
 
 pub returns-then-found : goal.returns-then-found
@@ -23,7 +23,7 @@ returns-then-found c =
     let a = c.args in
     let loop = c.loop-i in
     let is = walk_here _ _ _ _ _ _ _ loop.invariant.0 (omega arith) c.part.ensures.0 in
-    let f : List ℕ → Bool = λ p. contains p (phones_of a.t2) in
+    let f : List ℕ → Bool = λ p. contains p (phones_of a.other) in
     sym (some_found f _ [] _ (omega arith) loop.invariant.1 (ap f (sym is) ∙ sym c.found.ensures ∙ c.if-found.true))
 
 pub loop-i-preserved : goal.loop-i-preserved
@@ -33,7 +33,7 @@ loop-i-preserved c =
     let loop = c.loop-i in
     let cut = c.part.ensures.0 in
     let is = walk_here _ _ _ _ _ _ _ loop.invariant.0 (omega arith) cut in
-    let f : List ℕ → Bool = λ p. contains p (phones_of a.t2) in (
+    let f : List ℕ → Bool = λ p. contains p (phones_of a.other) in (
       walk_on _ _ _ _ _ _ _ loop.invariant.0 (omega arith) cut,
       some_again f _ [] _ (omega arith) loop.invariant.1 (ap f (sym is) ∙ sym c.found.ensures ∙ c.if-found.false),
     )

@@ -13,7 +13,7 @@ use Rattle.phones.proofs.append.Goals as goal
 
 within : (c : tie.After-measure) → c.measure.result.end ≤ 1024
 within c =
-    let l = c.before.before.before.before.before.before.before.args.t1 in
+    let l = c.before.before.before.before.before.before.before.args.l in
     let far : length l.bytes ≡ 1024 = search rules in
     let e = ap (λ (m : Measured). m.end) c.measure.ensures in
     let fits = ids_end (take l.count l.lens) l.bytes in
@@ -25,10 +25,10 @@ overflow_add-end c = let h = within c in omega arith
 pub returns-then-end-n-gt1024 : goal.returns-then-end-n-gt1024
 returns-then-end-n-gt1024 c =
     let a = c.args in
-    let far : length a.t1.bytes ≡ 1024 = search rules in
-    let many : length a.t1.lens ≡ 32 = search rules in
+    let far : length a.l.bytes ≡ 1024 = search rules in
+    let many : length a.l.lens ≡ 32 = search rules in
     let wide : length a.p.bytes ≡ 32 = search rules in
-    push_long a.t1 a.p _ _ _ far many wide c.measure-m.ensures c.clamp-k.ensures c.clamp-n.ensures (omega arith) (omega arith)
+    push_long a.l a.p _ _ _ far many wide c.measure-m.ensures c.clamp-k.ensures c.clamp-n.ensures (omega arith) (omega arith)
 
 pub slice_bounds-put-end-then-k-lt32 : goal.slice_bounds-put-end-then-k-lt32
 slice_bounds-put-end-then-k-lt32 c = rw length-take (let h = within c in omega arith)
@@ -48,14 +48,14 @@ put-requires-then-k-lt32 c = rw length-take (let h = c.put.auto.0 in omega arith
 pub returns-then-k-lt32 : goal.returns-then-k-lt32
 returns-then-k-lt32 c =
     let a = c.args in
-    let far : length a.t1.bytes ≡ 1024 = search rules in
-    let many : length a.t1.lens ≡ 32 = search rules in
+    let far : length a.l.bytes ≡ 1024 = search rules in
+    let many : length a.l.lens ≡ 32 = search rules in
     let wide : length a.p.bytes ≡ 32 = search rules in
     rw (c.put-then-k-lt32.ensures, c.put.ensures)
-    (push_built a.t1 a.p _ _ _ far many wide c.measure-m.ensures c.clamp-k.ensures c.clamp-n.ensures (omega arith) (omega arith))
+    (push_built a.l a.p _ _ _ far many wide c.measure-m.ensures c.clamp-k.ensures c.clamp-n.ensures (omega arith) (omega arith))
 
 pub returns : goal.returns
 returns c =
-    let l = c.args.t1 in
+    let l = c.args.l in
     let many : length l.lens ≡ 32 = search rules in
     sym (append_full l _ (let k = phones_length l many in omega arith))

@@ -14,7 +14,7 @@ use Rattle.phones.proofs.canonical.Goals as goal
 
 within : (c : tie.After-measure) → c.measure.result.end ≤ 1024
 within c =
-    let l = c.before.before.before.before.before.args.t1 in
+    let l = c.before.before.before.before.before.args.l in
     let far : length l.bytes ≡ 1024 = search rules in
     let e = ap (λ (m : Measured). m.end) c.measure.ensures in
     let fits = ids_end (take l.count l.lens) l.bytes in
@@ -35,7 +35,7 @@ put-requires c = rw length-take (let h = within c in omega arith)
 pub returns : goal.returns
 unfolding phones_of
 returns c =
-    let l = c.args.t1 in
+    let l = c.args.l in
     let far : length l.bytes ≡ 1024 = search rules in
     let many : length l.lens ≡ 32 = search rules in
     let measure = c.measure-m in

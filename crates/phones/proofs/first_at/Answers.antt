@@ -13,7 +13,7 @@ use Rattle.phones.proofs.first_at.Goals as goal
 
 pub loop-i-init : goal.loop-i-init
 loop-i-init c =
-    let far : length c.args.t2 ≡ 32 = search rules in
+    let far : length c.args.lens ≡ 32 = search rules in
     (walk_none _ _ _ _ far c.clamp-n.ensures, omega arith)
 
 pub returns-then-same_bytes : goal.returns-then-same_bytes

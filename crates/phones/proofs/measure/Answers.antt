@@ -15,7 +15,7 @@ use Rattle.phones.proofs.measure.Goals as goal
 pub loop-i-init : goal.loop-i-init
 unfolding padded
 loop-i-init c =
-    let far : length c.args.t2 ≡ 32 = search rules in
+    let far : length c.args.lens ≡ 32 = search rules in
     (walk_none _ _ _ _ far c.clamp-n.ensures, refl)
 
 pub loop-i-preserved : goal.loop-i-preserved
@@ -23,7 +23,7 @@ unfolding padded
 loop-i-preserved c =
     let a = c.args in
     let loop = c.loop-i in
-    let ps = ids_in (take a.count a.t2) a.bytes.now in
+    let ps = ids_in (take a.count a.lens) a.bytes.now in
     let cut = c.part-len.ensures.0 in
     let long : length (take loop.i ps) ≡ loop.i = rw length-take (omega arith) in
     let len = walk_length _ _ _ _ _ _ _ loop.invariant.0 (omega arith) cut in (
@@ -36,4 +36,4 @@ unfolding padded
 returns c =
     let a = c.args in
     let loop = c.loop-i in
-    rw (loop.invariant.1, loop.invariant.0.from, take_all loop.i (ids_in (take a.count a.t2) a.bytes.now) (omega arith))
+    rw (loop.invariant.1, loop.invariant.0.from, take_all loop.i (ids_in (take a.count a.lens) a.bytes.now) (omega arith))

@@ -19,23 +19,23 @@ returns-then-n-gt8 c = rw (lt-ltb _ _ c.if-n-gt8.true)
 
 pub loop-i-init : goal.loop-i-init
 loop-i-init c =
-    let far : length c.args.t1 ≡ 8 = search (rules, long_map) in
+    let far : length c.args.list ≡ 8 = search (rules, long_map) in
     (omega arith, omega arith, rw (length-take, far) (omega arith), refl)
 
 pub loop-i-preserved : goal.loop-i-preserved
 loop-i-preserved c =
     let args = c.args in
     let loop = c.loop-i in
-    let here : method_fits (get_or (take args.n args.t1) loop.i past_methods) ≡ true = rw (get_or-take args.n args.t1 loop.i past_methods (omega arith)) (sym c.method_fits.ensures ∙ c.if-method_fits.true) in
-    (omega arith, loop.invariant.1, loop.invariant.2, all_again method_fits (take args.n args.t1) past_methods loop.i (omega arith) loop.invariant.3 here)
+    let here : method_fits (get_or (take args.n args.list) loop.i past_methods) ≡ true = rw (get_or-take args.n args.list loop.i past_methods (omega arith)) (sym c.method_fits.ensures ∙ c.if-method_fits.true) in
+    (omega arith, loop.invariant.1, loop.invariant.2, all_again method_fits (take args.n args.list) past_methods loop.i (omega arith) loop.invariant.3 here)
 
 pub returns-else-method_fits : goal.returns-else-method_fits
 unfolding methods_in all_fit
 returns-else-method_fits c =
     let args = c.args in
     let loop = c.loop-i in
-    let here : method_fits (get_or (take args.n args.t1) loop.i past_methods) ≡ false = rw (get_or-take args.n args.t1 loop.i past_methods (omega arith)) (sym c.method_fits.ensures ∙ c.if-method_fits.false) in
-    rw (le-ltb _ _ c.if-n-gt8.false) (all_failed method_fits (take args.n args.t1) past_methods loop.i (omega arith) loop.invariant.3 here)
+    let here : method_fits (get_or (take args.n args.list) loop.i past_methods) ≡ false = rw (get_or-take args.n args.list loop.i past_methods (omega arith)) (sym c.method_fits.ensures ∙ c.if-method_fits.false) in
+    rw (le-ltb _ _ c.if-n-gt8.false) (all_failed method_fits (take args.n args.list) past_methods loop.i (omega arith) loop.invariant.3 here)
 
 pub returns : goal.returns
 unfolding methods_in all_fit

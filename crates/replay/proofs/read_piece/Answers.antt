@@ -40,15 +40,6 @@ loop-from-preserved c =
       l.invariant.4 ∙ piece_on c.args.piece.now l.line _ l.from _ c.find-e.ensures l.q.host l.q.number l.q.len _ _ l.invariant.1 c.keep.ensures _ _ c.finish_line-q.ensures c.if-piece-e.false,
     )
 
-pub shape_of-line-else-q : goal.shape_of-line-else-q
-shape_of-line-else-q c = let l = c.loop-from in omega arith
-
-pub shape_of-room-else-q : goal.shape_of-room-else-q
-shape_of-room-else-q c = let l = c.loop-from in omega arith
-
-pub shape_of-out-else-q : goal.shape_of-out-else-q
-shape_of-out-else-q c = let l = c.loop-from in omega arith
-
 pub returns-else-q : goal.returns-else-q
 returns-else-q c = λ going. never (sym c.if-q.false ∙ going)
 

@@ -5,10 +5,6 @@ use Rattle.replay_lines.specs.Fields.{put_fields}
 use Rattle.replay_answers.specs.Query.{access}
 use Rattle.replay_answers.proofs.put_access.Goals as goal
 
-pub shape_of-out : goal.shape_of-out
-unfolding access key_names keys put_fields
-shape_of-out c = search rules
-
 pub returns : goal.returns
 unfolding access key_names keys put_fields
 returns c = rw (← c.approval_word-w.ensures) c.put_told.ensures

@@ -13,10 +13,6 @@ pub slice_bounds-put_told-end : goal.slice_bounds-put_told-end
 unfolding challenge key_names keys put_fields
 slice_bounds-put_told-end c = search rules
 
-pub shape_of-out : goal.shape_of-out
-unfolding challenge key_names keys put_fields
-shape_of-out c = search rules
-
 pub returns : goal.returns
 unfolding challenge key_names keys put_fields
 returns c = c.put_told.ensures

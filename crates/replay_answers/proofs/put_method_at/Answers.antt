@@ -16,10 +16,6 @@ pub bounds-a-i-then-i-a : goal.bounds-a-i-then-i-a
 unfolding method_at
 bounds-a-i-then-i-a c = search rules
 
-pub shape_of-out-then-i-a : goal.shape_of-out-then-i-a
-unfolding method_at
-shape_of-out-then-i-a c = c.put_flag.auto.0 ∙ c.put_method-k.auto.0 ∙ c.put_comma-k.auto.0
-
 pub returns-then-i-a : goal.returns-then-i-a
 unfolding method_at
 returns-then-i-a c = rw (c.put_flag.ensures, c.put_method-k.ensures, c.put_comma-k.ensures, lt-ltb _ _ c.if-i-a.true)

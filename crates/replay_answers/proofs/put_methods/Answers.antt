@@ -4,17 +4,9 @@ use Rattle.replay_lines.specs.Fields.{put_fields}
 use Rattle.replay_answers.specs.Query.{told, methods}
 use Rattle.replay_answers.proofs.put_methods.Goals as goal
 
-pub shape_of-out-then-is_done : goal.shape_of-out-then-is_done
-unfolding key_names keys methods put_fields told
-shape_of-out-then-is_done c = search rules
-
 pub returns-then-is_done : goal.returns-then-is_done
 unfolding key_names keys methods put_fields told
 returns-then-is_done c = rw (c.put_method_list.ensures, c.put_told-k.ensures, ← c.is_done.ensures, c.if-is_done.true)
-
-pub shape_of-out : goal.shape_of-out
-unfolding key_names keys methods put_fields told
-shape_of-out c = search rules
 
 pub returns : goal.returns
 unfolding key_names keys methods put_fields told

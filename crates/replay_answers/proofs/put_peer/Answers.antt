@@ -10,10 +10,6 @@ pub slice_bounds-put_told-end : goal.slice_bounds-put_told-end
 unfolding id_bytes key_names keys peer put_fields
 slice_bounds-put_told-end c = search rules
 
-pub shape_of-out : goal.shape_of-out
-unfolding id_bytes key_names keys peer put_fields
-shape_of-out c = search rules
-
 pub returns : goal.returns
 unfolding id_bytes key_names keys peer put_fields
 returns c = c.put_told.ensures

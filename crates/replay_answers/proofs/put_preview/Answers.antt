@@ -3,17 +3,9 @@ use Rattle.replay_lines.specs.Table.{keys, key_names}
 use Rattle.replay_answers.specs.Query.{preview}
 use Rattle.replay_answers.proofs.put_preview.Goals as goal
 
-pub shape_of-out-then-is_out_of_range : goal.shape_of-out-then-is_out_of_range
-unfolding key_names keys preview
-shape_of-out-then-is_out_of_range c = search rules
-
 pub returns-then-is_out_of_range : goal.returns-then-is_out_of_range
 unfolding key_names keys preview
 returns-then-is_out_of_range c = rw (c.put_answer-k.ensures, ← c.is_out_of_range.ensures, c.if-is_out_of_range.true)
-
-pub shape_of-out : goal.shape_of-out
-unfolding key_names keys preview
-shape_of-out c = search rules
 
 pub returns : goal.returns
 unfolding key_names keys preview

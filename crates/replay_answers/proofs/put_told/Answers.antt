@@ -2,17 +2,9 @@ use borrow.Author.Rules.{rules}
 use Rattle.replay_answers.specs.Query.{told}
 use Rattle.replay_answers.proofs.put_told.Goals as goal
 
-pub shape_of-out-then-is_done : goal.shape_of-out-then-is_done
-unfolding told
-shape_of-out-then-is_done c = search rules
-
 pub returns-then-is_done : goal.returns-then-is_done
 unfolding told
 returns-then-is_done c = rw (c.put_fields.ensures, c.put_answer-k.ensures, ← c.is_done.ensures, c.if-is_done.true)
-
-pub shape_of-out : goal.shape_of-out
-unfolding told
-shape_of-out c = search rules
 
 pub returns : goal.returns
 unfolding told

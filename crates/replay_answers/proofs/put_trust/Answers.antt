@@ -5,10 +5,6 @@ use Rattle.replay_lines.specs.Fields.{put_fields}
 use Rattle.replay_answers.specs.Query.{trust}
 use Rattle.replay_answers.proofs.put_trust.Goals as goal
 
-pub shape_of-out : goal.shape_of-out
-unfolding key_names keys put_fields trust
-shape_of-out c = search rules
-
 pub returns : goal.returns
 unfolding key_names keys put_fields trust
 returns c = rw (← c.trust_word-w.ensures) c.put_told.ensures

@@ -9,10 +9,6 @@ pub slice_bounds-put_field-end : goal.slice_bounds-put_field-end
 unfolding car car_of key_names keys known
 slice_bounds-put_field-end c = search rules
 
-pub shape_of-out : goal.shape_of-out
-unfolding car car_of key_names keys known
-shape_of-out c = search rules
-
 pub returns : goal.returns
 unfolding car car_of key_names keys known
 returns c = rw (c.put_phones.ensures, c.put_field-k-2.ensures, c.put_field-k.ensures)

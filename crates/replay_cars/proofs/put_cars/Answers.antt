@@ -10,9 +10,6 @@ use Rattle.replay_cars.specs.Cars.{each_car}
 use Rattle.replay_cars.proofs.Laws.{no_cars, some_cars, cars_again, cars_end}
 use Rattle.replay_cars.proofs.put_cars.Goals as goal
 
-pub shape_of-out-then-n-eq0 : goal.shape_of-out-then-n-eq0
-shape_of-out-then-n-eq0 c = c.put_no_car.auto.0
-
 pub returns-then-n-eq0 : goal.returns-then-n-eq0
 returns-then-n-eq0 c =
     let a = c.args in
@@ -38,9 +35,6 @@ loop-i-preserved c =
       put.auto.0 ∙ loop.invariant.2,
       cars_again n a.s.cars loop.invariant.0 loop.i (page a.out.now a.at) (page loop.out loop.k) loop.invariant.3 (page put.new.0 put.result) c.loop-i-test.true put.ensures,
     )
-
-pub shape_of-out : goal.shape_of-out
-shape_of-out c = c.loop-i.invariant.2
 
 pub returns : goal.returns
 returns c =

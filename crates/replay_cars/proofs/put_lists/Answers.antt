@@ -3,10 +3,6 @@ use Rattle.replay_lines.specs.Table.{keys, key_names}
 use Rattle.replay_cars.specs.Cars.{lists}
 use Rattle.replay_cars.proofs.put_lists.Goals as goal
 
-pub shape_of-out : goal.shape_of-out
-unfolding key_names keys lists
-shape_of-out c = search rules
-
 pub returns : goal.returns
 unfolding key_names keys lists
 returns c = rw (c.put_cars.ensures, c.put_phones-k.ensures, c.put_field-k.ensures)

@@ -3,10 +3,6 @@ use Rattle.replay_lines.specs.Table.{keys, key_names, words, word_names}
 use Rattle.replay_cars.specs.Cars.{no_car}
 use Rattle.replay_cars.proofs.put_no_car.Goals as goal
 
-pub shape_of-out : goal.shape_of-out
-unfolding key_names keys no_car word_names words
-shape_of-out c = search rules
-
 pub returns : goal.returns
 unfolding key_names keys no_car word_names words
 returns c = rw (c.put_field.ensures, c.put_field-k.ensures)

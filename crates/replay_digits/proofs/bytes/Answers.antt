@@ -36,10 +36,6 @@ pub overflow_add-result : goal.overflow_add-result
 unfolding fits_in laid_to lay_bytes
 overflow_add-result c = search rules
 
-pub shape_of-out-then-is_bytes : goal.shape_of-out-then-is_bytes
-unfolding fits_in laid_to lay_bytes
-shape_of-out-then-is_bytes c = search rules
-
 pub returns-then-is_bytes : goal.returns-then-is_bytes
 unfolding fits_in laid_to lay_bytes
 returns-then-is_bytes c =

@@ -24,10 +24,6 @@ put-requires c =
     let e = text_bytes c.args.form c.args.s.now (sym c.is_text.ensures ∙ c.if-is_text.true) in
     rw (text_part c.args.s.now, ← e) c.requires.1
 
-pub shape_of-out-then-is_text : goal.shape_of-out-then-is_text
-unfolding as_bytes
-shape_of-out-then-is_text c = search rules
-
 pub returns-then-is_text : goal.returns-then-is_text
 unfolding as_bytes
 returns-then-is_text c =
@@ -39,10 +35,6 @@ unfolding as_bytes
 put_pairs-requires c =
     let e = hex_bytes c.args.form c.args.s.now (sym c.is_text.ensures ∙ c.if-is_text.false) in
     (sym e.1 ∙ c.requires.0, omega (arith, c.requires.1, ap length e.0, pairs_length c.args.s.now))
-
-pub shape_of-out : goal.shape_of-out
-unfolding as_bytes
-shape_of-out c = search rules
 
 pub returns : goal.returns
 unfolding as_bytes

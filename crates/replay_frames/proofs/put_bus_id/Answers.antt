@@ -2,10 +2,6 @@ use Rattle.replay_frames.specs.Frames.{bus_id}
 use borrow.Author.Rules.{rules}
 use Rattle.replay_frames.proofs.put_bus_id.Goals as goal
 
-pub shape_of-out : goal.shape_of-out
-unfolding bus_id
-shape_of-out c = search rules
-
 pub returns : goal.returns
 unfolding bus_id
 returns c = rw (← c.put_number-k.ensures, ← c.put_text-k.ensures, ← c.put_id.ensures)

@@ -17,11 +17,3 @@ enum_told-in-Command c = search rules
 pub put_text-requires-in-Command : goal.put_text-requires-in-Command
 unfolding text
 put_text-requires-in-Command c = search rules
-
-pub shape_of-out-in-Platform : goal.shape_of-out-in-Platform
-unfolding text
-shape_of-out-in-Platform c = search rules
-
-pub shape_of-out-in-Command : goal.shape_of-out-in-Command
-unfolding text
-shape_of-out-in-Command c = search rules

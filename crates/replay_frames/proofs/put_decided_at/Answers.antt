@@ -12,10 +12,6 @@ pub bounds-r-i : goal.bounds-r-i
 unfolding decided_at
 bounds-r-i c = search rules
 
-pub shape_of-out-then-i-r : goal.shape_of-out-then-i-r
-unfolding decided_at
-shape_of-out-then-i-r c = c.put_decided.auto.0 ∙ c.put_comma-k.auto.0
-
 pub returns-then-i-r : goal.returns-then-i-r
 unfolding decided_at
 returns-then-i-r c = rw (c.put_decided.ensures, c.put_comma-k.ensures, lt-ltb _ _ c.if-i-r.true)

@@ -10,10 +10,6 @@ pub slice_bounds-put_bytes-end : goal.slice_bounds-put_bytes-end
 unfolding frame
 slice_bounds-put_bytes-end c = search rules
 
-pub shape_of-out : goal.shape_of-out
-unfolding frame
-shape_of-out c = search rules
-
 pub returns : goal.returns
 unfolding frame
 returns c = rw (← c.put_bus_id-k.ensures, ← c.put_item-k.ensures, ← c.put_text-k.ensures, ← c.put_bytes.ensures)

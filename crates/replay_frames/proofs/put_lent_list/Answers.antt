@@ -3,10 +3,6 @@ use Rattle.replay_frames.specs.Frames.{lent_list}
 use borrow.Author.Rules.{rules}
 use Rattle.replay_frames.proofs.put_lent_list.Goals as goal
 
-pub shape_of-out : goal.shape_of-out
-unfolding key_names keys lent_list
-shape_of-out c = search rules
-
 pub returns : goal.returns
 unfolding key_names keys lent_list
 returns c = rw (c.put_waiting_list.ensures, c.put_field-k-2.ensures, c.put_field-k.ensures, c.put_answer-k.ensures)

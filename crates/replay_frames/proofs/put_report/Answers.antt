@@ -5,17 +5,9 @@ use Rattle.replay_answers.specs.Query.{told}
 use Rattle.replay_frames.specs.Frames.{report}
 use Rattle.replay_frames.proofs.put_report.Goals as goal
 
-pub shape_of-out-then-is_done : goal.shape_of-out-then-is_done
-unfolding key_names keys put_fields report told
-shape_of-out-then-is_done c = search rules
-
 pub returns-then-is_done : goal.returns-then-is_done
 unfolding key_names keys put_fields report told
 returns-then-is_done c = rw (c.put_decided_list.ensures, c.put_told-k.ensures, ← c.is_done.ensures, c.if-is_done.true)
-
-pub shape_of-out : goal.shape_of-out
-unfolding key_names keys put_fields report told
-shape_of-out c = search rules
 
 pub returns : goal.returns
 unfolding key_names keys put_fields report told

@@ -2,10 +2,6 @@ use Rattle.replay_frames.specs.Frames.{waiting}
 use borrow.Author.Rules.{rules}
 use Rattle.replay_frames.proofs.put_waiting.Goals as goal
 
-pub shape_of-out : goal.shape_of-out
-unfolding waiting
-shape_of-out c = search rules
-
 pub returns : goal.returns
 unfolding waiting
 returns c = rw (← c.put_frame-k.ensures, ← c.put_class-k.ensures, ← c.put_phone.ensures)

@@ -12,10 +12,6 @@ pub bounds-list-i : goal.bounds-list-i
 unfolding waiting_at
 bounds-list-i c = search rules
 
-pub shape_of-out-then-i-lent : goal.shape_of-out-then-i-lent
-unfolding waiting_at
-shape_of-out-then-i-lent c = c.put_waiting.auto.0 ∙ c.put_comma-k.auto.0
-
 pub returns-then-i-lent : goal.returns-then-i-lent
 unfolding waiting_at
 returns-then-i-lent c = rw (c.put_waiting.ensures, c.put_comma-k.ensures, lt-ltb _ _ c.if-i-lent.true)

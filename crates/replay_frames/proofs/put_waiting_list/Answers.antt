@@ -18,10 +18,6 @@ loop-i-preserved c =
     let l = c.loop-i in
     (omega arith, f.auto.0 ∙ l.invariant.1, rw (f.ensures, l.invariant.2, add-one))
 
-pub shape_of-out : goal.shape_of-out
-unfolding waiting_to
-shape_of-out c = c.loop-i.invariant.1
-
 pub returns : goal.returns
 unfolding waiting_to
 returns c =

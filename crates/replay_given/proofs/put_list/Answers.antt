@@ -5,10 +5,6 @@ use Rattle.replay_page.proofs.Room.{◌⊕◌, upto}
 use Rattle.replay_given.specs.Turns.{ran, turn_room}
 use Rattle.replay_given.proofs.put_list.Goals as goal
 
-pub shape_of-out : goal.shape_of-out
-unfolding ran
-shape_of-out c = search rules
-
 pub returns : goal.returns
 unfolding ran
 returns c =

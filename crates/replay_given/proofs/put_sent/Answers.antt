@@ -3,10 +3,6 @@ use Rattle.replay_given.specs.Turns.{ran}
 use Rattle.replay_given.proofs.Laws.{lays_as, laid_sent}
 use Rattle.replay_given.proofs.put_sent.Goals as goal
 
-pub shape_of-out : goal.shape_of-out
-unfolding ran
-shape_of-out c = search rules
-
 pub returns : goal.returns
 unfolding ran
 returns c =

@@ -8,41 +8,21 @@ use Rattle.replay_page.proofs.Room.{same}
 use Rattle.replay_given.specs.Turns.{ran, turn_room}
 use Rattle.replay_given.proofs.run_host.Goals as goal
 
-pub shape_of-out-in-0 : goal.shape_of-out-in-0
-unfolding ran lent_bytes host_line host_lines
-shape_of-out-in-0 c = search rules
-
 pub returns-in-0 : goal.returns-in-0
 unfolding ran lent_bytes host_line host_lines
 returns-in-0 c = rw (c.in-0.keys1, ← c.lent-owner.ensures) c.put_sent.ensures
-
-pub shape_of-out-in-1 : goal.shape_of-out-in-1
-unfolding ran lent_bytes host_line host_lines
-shape_of-out-in-1 c = search rules
 
 pub returns-in-1 : goal.returns-in-1
 unfolding ran lent_bytes host_line host_lines
 returns-in-1 c = rw c.in-1.keys2 c.put_served.ensures
 
-pub shape_of-out-in-2 : goal.shape_of-out-in-2
-unfolding ran lent_bytes host_line host_lines
-shape_of-out-in-2 c = search rules
-
 pub returns-in-2 : goal.returns-in-2
 unfolding ran lent_bytes host_line host_lines
 returns-in-2 c = rw c.in-2.keys3 (rw c.with_lent.ensures at c.put_done.ensures)
 
-pub shape_of-out-in-3 : goal.shape_of-out-in-3
-unfolding ran lent_bytes host_line host_lines
-shape_of-out-in-3 c = search rules
-
 pub returns-in-3 : goal.returns-in-3
 unfolding ran lent_bytes host_line host_lines
 returns-in-3 c = rw (c.in-3.keys4, ← c.lent-owner.ensures) (rw (c.with_record.ensures, c.record_of-w.ensures) at c.put_done-in-3.ensures)
-
-pub shape_of-out-in-4 : goal.shape_of-out-in-4
-unfolding ran lent_bytes host_line host_lines
-shape_of-out-in-4 c = search rules
 
 pub returns-in-4 : goal.returns-in-4
 unfolding ran lent_bytes host_line host_lines

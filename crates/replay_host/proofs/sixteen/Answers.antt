@@ -15,7 +15,7 @@ loop-i-init c = (omega arith, c.well_formed.0.1.0.1, refl, refl)
 
 pub loop-i-preserved : goal.loop-i-preserved
 loop-i-preserved c =
-    let list = c.args.t1 in
+    let list = c.args.list in
     let loop = c.loop-i in
     (omega arith, loop.invariant.1, loop.invariant.2, ap (λ (l : List Waiting). set l loop.i (record_at list loop.i)) loop.invariant.3 ∙ rw add-one (copied list _ loop.i blank (omega arith) (omega arith)))
 

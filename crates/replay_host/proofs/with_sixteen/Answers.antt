@@ -15,14 +15,14 @@ use Rattle.replay_host.proofs.with_sixteen.Goals as goal
 
 pub loop-i-init : goal.loop-i-init
 loop-i-init c =
-    let all = c.args.t2 in
+    let all = c.args.all in
     let few : length all ≡ 16 = search (rules, long_map, c.well_formed) in
     let far : length c.args.list ≡ 17 = search (rules, long_map, c.well_formed) in
     (omega arith, few, far, refl)
 
 pub loop-i-preserved : goal.loop-i-preserved
 loop-i-preserved c =
-    let all = c.args.t2 in
+    let all = c.args.all in
     let loop = c.loop-i in
     (omega arith, loop.invariant.1, loop.invariant.2, ap (λ (l : List Waiting). set l loop.i (record_at all loop.i)) loop.invariant.3 ∙ rw add-one (copied all _ loop.i blank (omega arith) (omega arith)))
 
@@ -30,4 +30,4 @@ pub returns : goal.returns
 returns c =
     let loop = c.loop-i in
     let e : loop.i ≡ 16 = omega arith in
-    loop.invariant.3 ∙ rw (e, take_all 16 c.args.t2 (le_of_eq loop.invariant.1))
+    loop.invariant.3 ∙ rw (e, take_all 16 c.args.all (le_of_eq loop.invariant.1))

@@ -6,10 +6,6 @@ pub lay_all-laid-requires : goal.lay_all-laid-requires
 unfolding read_of
 lay_all-laid-requires c = search rules
 
-pub shape_of-room : goal.shape_of-room
-unfolding read_of
-shape_of-room c = c.lay_all-laid.auto.1.0
-
 pub returns : goal.returns
 unfolding read_of
 returns c =

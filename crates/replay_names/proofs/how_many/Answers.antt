@@ -6,5 +6,5 @@ use Rattle.replay_names.proofs.how_many.Goals as goal
 
 pub returns : goal.returns
 returns c =
-    let far : length c.args.t1 ≡ 28 = search rules in
-    sym (get_or-eq_default c.args.t1 0 (omega arith))
+    let far : length c.args.many ≡ 28 = search rules in
+    sym (get_or-eq_default c.args.many 0 (omega arith))

@@ -7,5 +7,5 @@ use Rattle.replay_names.proofs.is_right.Goals as goal
 
 pub returns : goal.returns
 returns c =
-    let far : length c.args.t1 ≡ 28 = search rules in
-    sym (get_or-eq_default c.args.t1 false (omega arith))
+    let far : length c.args.right ≡ 28 = search rules in
+    sym (get_or-eq_default c.args.right false (omega arith))

@@ -36,10 +36,6 @@ pub overflow_add-result-2 : goal.overflow_add-result-2
 unfolding text
 overflow_add-result-2 c = search rules
 
-pub shape_of-out : goal.shape_of-out
-unfolding text
-shape_of-out c = c.put_hex.auto.0
-
 pub returns : goal.returns
 unfolding text
 returns c = let a = c.args in let h = hex_length a.src.now in rw (c.put_hex.ensures, le-ltb (length a.out.now) a.at (omega arith), le-ltb (length a.out.now) (a.at + length (hex_of a.src.now)) (omega arith), h)

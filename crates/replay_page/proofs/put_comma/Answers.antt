@@ -7,10 +7,6 @@ pub returns-then-place-eq0 : goal.returns-then-place-eq0
 unfolding comma
 returns-then-place-eq0 c = rw (eq-eqb _ _ c.if-place-eq0.true)
 
-pub shape_of-out : goal.shape_of-out
-unfolding comma
-shape_of-out c = c.put_text.auto.0
-
 pub returns : goal.returns
 unfolding comma
 returns c = rw (c.put_text.ensures, ne_eqb _ _ c.if-place-eq0.false)

@@ -21,10 +21,6 @@ pub slice_bounds-put_text-end : goal.slice_bounds-put_text-end
 unfolding digit_from
 slice_bounds-put_text-end c = refl
 
-pub shape_of-out : goal.shape_of-out
-unfolding digit_from
-shape_of-out c = c.put_text.auto.0
-
 pub returns : goal.returns
 unfolding digit_from
 returns c = rw (c.put_text.ensures, c.hex_digit-d.ensures, mod_twice, le-ltb _ _ c.if-n-unit.false)

@@ -3,17 +3,9 @@ use Rattle.replay_page.specs.Page.{digits}
 use borrow.Author.Rules.{rules}
 use Rattle.replay_page.proofs.put_digits.Goals as goal
 
-pub shape_of-out-then-n-eq0 : goal.shape_of-out-then-n-eq0
-unfolding digits
-shape_of-out-then-n-eq0 c = search rules
-
 pub returns-then-n-eq0 : goal.returns-then-n-eq0
 unfolding digits
 returns-then-n-eq0 c = rw (eq-eqb _ _ c.if-n-eq0.true, ← c.put_text.ensures)
-
-pub shape_of-out : goal.shape_of-out
-unfolding digits
-shape_of-out c = search rules
 
 pub returns : goal.returns
 unfolding digits

@@ -32,10 +32,6 @@ pub put_text-requires : goal.put_text-requires
 unfolding hexadecimal
 put_text-requires c = search rules
 
-pub shape_of-out : goal.shape_of-out
-unfolding hexadecimal
-shape_of-out c = c.put_text.auto.0 ∙ c.put_digit-k-3.auto.0 ∙ c.put_digit-k-2.auto.0 ∙ c.put_digit-k.auto.0 ∙ c.put_high-k.auto.0
-
 pub returns : goal.returns
 unfolding hexadecimal
 returns c = rw (c.put_text.ensures, c.hex_digit-d.ensures, mod_twice, c.put_digit-k-3.ensures, c.put_digit-k-2.ensures, c.put_digit-k.ensures, c.put_high-k.ensures)

@@ -2,17 +2,9 @@ use Rattle.replay_page.specs.Page.{known}
 use borrow.Author.Rules.{rules}
 use Rattle.replay_page.proofs.put_known.Goals as goal
 
-pub shape_of-out-then-yes : goal.shape_of-out-then-yes
-unfolding known
-shape_of-out-then-yes c = search rules
-
 pub returns-then-yes : goal.returns-then-yes
 unfolding known
 returns-then-yes c = rw (c.if-yes.true, ← c.put_bytes.ensures)
-
-pub shape_of-out : goal.shape_of-out
-unfolding known
-shape_of-out c = search rules
 
 pub returns : goal.returns
 unfolding known

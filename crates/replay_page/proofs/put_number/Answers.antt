@@ -14,8 +14,5 @@ slice_bounds-digits-end c = let h = digits_fit c.args.n (omega arith) in omega a
 pub slice_bounds-put_text-end : goal.slice_bounds-put_text-end
 slice_bounds-put_text-end c = let h = digits_fit c.args.n (omega arith) in rw length-take (omega arith)
 
-pub shape_of-out : goal.shape_of-out
-shape_of-out c = c.put_text.auto.0
-
 pub returns : goal.returns
 returns c = let n = c.args.n in let d = c.put_decimal-k in rw (← front 20 d.new.0 d.result (decimal_of n) (digits_fit n (omega arith)) d.ensures.0 d.ensures.1) c.put_text.ensures

@@ -30,10 +30,6 @@ pub overflow_add-result-2 : goal.overflow_add-result-2
 unfolding text
 overflow_add-result-2 c = search rules
 
-pub shape_of-out : goal.shape_of-out
-unfolding text
-shape_of-out c = c.put.auto.0
-
 pub returns : goal.returns
 unfolding text
 returns c = let a = c.args in rw (c.put.ensures, le-ltb (length a.out.now) a.at (omega arith), le-ltb (length a.out.now) (a.at + length a.src.now) (omega arith))

@@ -2,17 +2,9 @@ use mathlib.Core.Path.{refl}
 use Rattle.replay_page.specs.Page.{yes_no}
 use Rattle.replay_page.proofs.put_yes_no.Goals as goal
 
-pub shape_of-out-then-b : goal.shape_of-out-then-b
-unfolding yes_no
-shape_of-out-then-b c = c.put_text.auto.0
-
 pub returns-then-b : goal.returns-then-b
 unfolding yes_no
 returns-then-b c = rw (c.put_text.ensures, c.if-b.true)
-
-pub shape_of-out : goal.shape_of-out
-unfolding yes_no
-shape_of-out c = c.put_text-2.auto.0
 
 pub returns : goal.returns
 unfolding yes_no

@@ -7,37 +7,13 @@ pub play_line-r-requires : goal.play_line-r-requires
 unfolding with_state
 play_line-r-requires c = search rules
 
-pub shape_of-room-then-r : goal.shape_of-room-then-r
-unfolding with_state
-shape_of-room-then-r c = c.play_line-r.auto.1.1.1.0
-
-pub shape_of-out-then-r : goal.shape_of-out-then-r
-unfolding with_state
-shape_of-out-then-r c = search rules
-
 pub returns-then-r : goal.returns-then-r
 unfolding with_state
 returns-then-r c = let f = c.play_line-r in let l = f.ensures in (rw (← l.0, c.if-states.true, c.if-r.true, ← c.put_state.ensures), l.1, line_fits c.args.states c.args.number c.ranges.number.fits c.args.h _ _ _ f.result l.0 l.2 _ f.type-inv)
 
-pub shape_of-room-else-r : goal.shape_of-room-else-r
-unfolding with_state
-shape_of-room-else-r c = search rules
-
-pub shape_of-out-else-r : goal.shape_of-out-else-r
-unfolding with_state
-shape_of-out-else-r c = search rules
-
 pub returns-else-r : goal.returns-else-r
 unfolding with_state
 returns-else-r c = let f = c.play_line-r in let l = f.ensures in (rw (← l.0, c.if-states.true, c.if-r.false), l.1, line_fits c.args.states c.args.number c.ranges.number.fits c.args.h _ _ _ f.result l.0 l.2 _ f.type-inv)
-
-pub shape_of-room-else-states : goal.shape_of-room-else-states
-unfolding with_state
-shape_of-room-else-states c = search rules
-
-pub shape_of-out-else-states : goal.shape_of-out-else-states
-unfolding with_state
-shape_of-out-else-states c = search rules
 
 pub returns-else-states : goal.returns-else-states
 unfolding with_state

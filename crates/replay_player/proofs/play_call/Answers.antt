@@ -6,10 +6,6 @@ pub run-r-requires : goal.run-r-requires
 unfolding ended
 run-r-requires c = c.requires
 
-pub shape_of-out : goal.shape_of-out
-unfolding ended
-shape_of-out c = search rules
-
 pub returns : goal.returns
 unfolding ended
 returns c = let r = c.run-r.ensures in (rw (← c.put_begin-k.ensures, ← r.0, ← c.put_text.ensures), r.1)

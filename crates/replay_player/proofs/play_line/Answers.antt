@@ -13,9 +13,6 @@ slice_bounds-play_call-end c = word_length c.args.line.now _ c.name_end-e.ensure
 pub play_call-requires : goal.play_call-requires
 play_call-requires c = lent_most c.args.line.now _ c.read-read.ensures.bytes c.requires.1
 
-pub shape_of-room-then-takes : goal.shape_of-room-then-takes
-shape_of-room-then-takes c = c.read-read.auto.1.0
-
 pub returns-then-takes : goal.returns-then-takes
 returns-then-takes c =
     let call = c.play_call.ensures in
@@ -23,9 +20,6 @@ returns-then-takes c =
     let right = sym c.takes.ensures ∙ c.if-takes.true in
     let t = played_right _ _ _ _ _ _ _ c.name_end-e.ensures c.name_of-name.ensures r.items _ r.bytes right _ call.0 in
     (t, r.memory, right_in c.args.h c.args.number c.ranges.number.fits _ _ _ _ c.name_end-e.ensures c.name_of-name.ensures r.items _ r.bytes right call.1)
-
-pub shape_of-room : goal.shape_of-room
-shape_of-room c = c.read-read.auto.1.0
 
 pub returns : goal.returns
 returns c =

@@ -2,10 +2,6 @@ use Rattle.replay_played.specs.Played.{state_line}
 use borrow.Author.Rules.{rules}
 use Rattle.replay_player.proofs.put_state.Goals as goal
 
-pub shape_of-out : goal.shape_of-out
-unfolding state_line
-shape_of-out c = search rules
-
 pub returns : goal.returns
 unfolding state_line
 returns c = rw (← c.put_begin-k.ensures, ← c.put_gate-k.ensures, ← c.put_text.ensures)

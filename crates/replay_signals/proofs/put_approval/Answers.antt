@@ -7,17 +7,9 @@ pub slice_bounds-put_bytes-end : goal.slice_bounds-put_bytes-end
 unfolding approval
 slice_bounds-put_bytes-end c = search rules
 
-pub shape_of-out-then-s-2 : goal.shape_of-out-then-s-2
-unfolding approval
-shape_of-out-then-s-2 c = c.put_bytes.auto.0 ∙ c.put_next-k.auto.0
-
 pub returns-then-s-2 : goal.returns-then-s-2
 unfolding approval
 returns-then-s-2 c = rw (c.put_bytes.ensures, c.put_next-k.ensures, c.if-s.true, c.if-s-2.true)
-
-pub shape_of-out-then-s : goal.shape_of-out-then-s
-unfolding approval
-shape_of-out-then-s c = c.put_text.auto.0 ∙ c.put_next-k.auto.0
 
 pub returns-then-s : goal.returns-then-s
 unfolding approval

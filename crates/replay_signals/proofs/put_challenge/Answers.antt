@@ -2,17 +2,9 @@ use mathlib.Core.Path.{refl, ◌∙◌}
 use Rattle.replay_signals.specs.Signals.{challenge}
 use Rattle.replay_signals.proofs.put_challenge.Goals as goal
 
-pub shape_of-out-then-s-2 : goal.shape_of-out-then-s-2
-unfolding challenge
-shape_of-out-then-s-2 c = c.put_running.auto.0 ∙ c.put_next-k.auto.0
-
 pub returns-then-s-2 : goal.returns-then-s-2
 unfolding challenge
 returns-then-s-2 c = rw (c.put_running.ensures, c.put_next-k.ensures, c.if-s.true, c.if-s-2.true)
-
-pub shape_of-out-then-s : goal.shape_of-out-then-s
-unfolding challenge
-shape_of-out-then-s c = c.put_text.auto.0 ∙ c.put_next-k.auto.0
 
 pub returns-then-s : goal.returns-then-s
 unfolding challenge

@@ -3,10 +3,6 @@ use Rattle.replay_signals.specs.Signals.{ended}
 use borrow.Author.Tests.{eq-eqb, ne_eqb}
 use Rattle.replay_signals.proofs.put_end.Goals as goal
 
-pub shape_of-out-then-at-from : goal.shape_of-out-then-at-from
-unfolding ended
-shape_of-out-then-at-from c = c.put_text.auto.0
-
 pub returns-then-at-from : goal.returns-then-at-from
 unfolding ended
 returns-then-at-from c = rw (c.put_text.ensures, eq-eqb _ _ c.if-at-from.true)

@@ -2,10 +2,6 @@ use mathlib.Core.Path.{refl, ◌∙◌}
 use Rattle.replay_signals.specs.Signals.{listed}
 use Rattle.replay_signals.proofs.put_listed.Goals as goal
 
-pub shape_of-out : goal.shape_of-out
-unfolding listed
-shape_of-out c = c.put_end.auto.0 ∙ c.put_challenge-k.auto.0 ∙ c.put_validations-k.auto.0 ∙ c.put_approval-k.auto.0 ∙ c.put_read_only-k.auto.0 ∙ c.put_raised-k-2.auto.0 ∙ c.put_raised-k.auto.0
-
 pub returns : goal.returns
 unfolding listed
 returns c = rw (c.put_end.ensures, c.put_challenge-k.ensures, c.put_validations-k.ensures, c.put_approval-k.ensures, c.put_read_only-k.ensures, c.put_raised-k-2.ensures, c.put_raised-k.ensures)

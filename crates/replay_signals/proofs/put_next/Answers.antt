@@ -3,17 +3,9 @@ use Rattle.replay_signals.specs.Signals.{next}
 use borrow.Author.Tests.{eq-eqb, ne_eqb}
 use Rattle.replay_signals.proofs.put_next.Goals as goal
 
-pub shape_of-out-then-at-from : goal.shape_of-out-then-at-from
-unfolding next
-shape_of-out-then-at-from c = c.put_text.auto.0
-
 pub returns-then-at-from : goal.returns-then-at-from
 unfolding next
 returns-then-at-from c = rw (c.put_text.ensures, eq-eqb _ _ c.if-at-from.true)
-
-pub shape_of-out : goal.shape_of-out
-unfolding next
-shape_of-out c = c.put_text-2.auto.0 ∙ c.put_text-k.auto.0
 
 pub returns : goal.returns
 unfolding next

@@ -1,10 +1,6 @@
 use Rattle.replay_signals.specs.Signals.{raised}
 use Rattle.replay_signals.proofs.put_raised.Goals as goal
 
-pub shape_of-out-then-sent : goal.shape_of-out-then-sent
-unfolding raised
-shape_of-out-then-sent c = c.put_next.auto.0
-
 pub returns-then-sent : goal.returns-then-sent
 unfolding raised
 returns-then-sent c = rw (c.put_next.ensures, c.if-sent.true)

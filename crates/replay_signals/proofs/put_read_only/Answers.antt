@@ -2,10 +2,6 @@ use mathlib.Core.Path.{refl, ◌∙◌}
 use Rattle.replay_signals.specs.Signals.{read_only}
 use Rattle.replay_signals.proofs.put_read_only.Goals as goal
 
-pub shape_of-out-then-s : goal.shape_of-out-then-s
-unfolding read_only
-shape_of-out-then-s c = c.put_yes_no.auto.0 ∙ c.put_next-k.auto.0
-
 pub returns-then-s : goal.returns-then-s
 unfolding read_only
 returns-then-s c = rw (c.put_yes_no.ensures, c.put_next-k.ensures, c.if-s.true)

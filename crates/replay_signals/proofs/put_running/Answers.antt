@@ -10,10 +10,6 @@ pub slice_bounds-put_digits-end : goal.slice_bounds-put_digits-end
 unfolding running
 slice_bounds-put_digits-end c = search rules
 
-pub shape_of-out : goal.shape_of-out
-unfolding running
-shape_of-out c = search rules
-
 pub returns : goal.returns
 unfolding running
 returns c = rw (c.put_digits.ensures, c.put_text-k.ensures, c.put_item-k.ensures, c.put_number-k.ensures)

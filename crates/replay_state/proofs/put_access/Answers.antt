@@ -9,10 +9,6 @@ pub slice_bounds-put_fields-end : goal.slice_bounds-put_fields-end
 unfolding access key_names keys put_fields
 slice_bounds-put_fields-end c = search rules
 
-pub shape_of-out : goal.shape_of-out
-unfolding access key_names keys put_fields
-shape_of-out c = search rules
-
 pub returns : goal.returns
 unfolding access key_names keys put_fields
 returns c = c.put_fields.ensures

@@ -21,10 +21,6 @@ pub bounds-on-3 : goal.bounds-on-3
 unfolding buses key_names keys put_fields
 bounds-on-3 c = search rules
 
-pub shape_of-out : goal.shape_of-out
-unfolding buses key_names keys put_fields
-shape_of-out c = search rules
-
 pub returns : goal.returns
 unfolding buses key_names keys put_fields
 returns c = c.put_fields.ensures

@@ -2,10 +2,6 @@ use borrow.Author.Rules.{rules}
 use Rattle.replay_state.specs.Whole.{front}
 use Rattle.replay_state.proofs.put_front.Goals as goal
 
-pub shape_of-out : goal.shape_of-out
-unfolding front
-shape_of-out c = search rules
-
 pub returns : goal.returns
 unfolding front
 returns c = rw (c.put_peer.ensures, c.put_lists-k.ensures, c.put_policy-k.ensures, c.put_method_list-k.ensures, c.put_settings-k.ensures)

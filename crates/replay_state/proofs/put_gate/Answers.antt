@@ -8,10 +8,6 @@ pub overflow_cast-fields : goal.overflow_cast-fields
 unfolding gate key_names keys put_fields
 overflow_cast-fields c = search rules
 
-pub shape_of-out : goal.shape_of-out
-unfolding gate key_names keys put_fields
-shape_of-out c = search rules
-
 pub returns : goal.returns
 unfolding gate key_names keys put_fields
 returns c = rw (c.put_queue.ensures, c.put_save-k.ensures, c.put_probe-k.ensures, c.put_fields-k.ensures, c.put_session_or_none-k.ensures, c.put_front-k.ensures)

@@ -20,10 +20,6 @@ pub bounds-m-i-then-i-m-2 : goal.bounds-m-i-then-i-m-2
 unfolding method_at
 bounds-m-i-then-i-m-2 c = search rules
 
-pub shape_of-out-then-i-m : goal.shape_of-out-then-i-m
-unfolding method_at
-shape_of-out-then-i-m c = c.put_flag.auto.0 ∙ c.put_flag-k.auto.0 ∙ c.put_method-k.auto.0 ∙ c.put_comma-k.auto.0
-
 pub returns-then-i-m : goal.returns-then-i-m
 unfolding method_at
 returns-then-i-m c = rw (c.put_flag.ensures, c.put_flag-k.ensures, c.put_method-k.ensures, c.put_comma-k.ensures, lt-ltb _ _ c.if-i-m.true)

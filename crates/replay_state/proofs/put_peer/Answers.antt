@@ -5,10 +5,6 @@ use Rattle.phones.specs.Phones.{id_bytes}
 use borrow.Author.Tests.{eq-eqb, ne_eqb}
 use Rattle.replay_state.proofs.put_peer.Goals as goal
 
-pub shape_of-out-then-id-eq0 : goal.shape_of-out-then-id-eq0
-unfolding id_bytes key_names keys peer word_names words
-shape_of-out-then-id-eq0 c = search rules
-
 pub returns-then-id-eq0 : goal.returns-then-id-eq0
 unfolding id_bytes key_names keys peer word_names words
 returns-then-id-eq0 c = rw (eq-eqb _ _ c.if-id-eq0.true) c.put_field.ensures
@@ -16,10 +12,6 @@ returns-then-id-eq0 c = rw (eq-eqb _ _ c.if-id-eq0.true) c.put_field.ensures
 pub slice_bounds-put_field-end-2 : goal.slice_bounds-put_field-end-2
 unfolding id_bytes key_names keys peer word_names words
 slice_bounds-put_field-end-2 c = search rules
-
-pub shape_of-out : goal.shape_of-out
-unfolding id_bytes key_names keys peer word_names words
-shape_of-out c = search rules
 
 pub returns : goal.returns
 unfolding id_bytes key_names keys peer word_names words

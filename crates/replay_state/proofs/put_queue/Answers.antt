@@ -7,10 +7,6 @@ pub overflow_cast-q : goal.overflow_cast-q
 unfolding key_names keys queue
 overflow_cast-q c = search rules
 
-pub shape_of-out : goal.shape_of-out
-unfolding key_names keys queue
-shape_of-out c = search rules
-
 pub returns : goal.returns
 unfolding key_names keys queue
 returns c = rw (c.put_field.ensures, c.put_field-k.ensures)

@@ -7,17 +7,9 @@ pub slice_bounds-put_field-end : goal.slice_bounds-put_field-end
 unfolding key_names keys save word_names words
 slice_bounds-put_field-end c = search rules
 
-pub shape_of-out-then-s : goal.shape_of-out-then-s
-unfolding key_names keys save word_names words
-shape_of-out-then-s c = search rules
-
 pub returns-then-s : goal.returns-then-s
 unfolding key_names keys save word_names words
 returns-then-s c = rw (c.if-s.true, ← c.put_field-k.ensures, ← c.put_field.ensures)
-
-pub shape_of-out : goal.shape_of-out
-unfolding key_names keys save word_names words
-shape_of-out c = search rules
 
 pub returns : goal.returns
 unfolding key_names keys save word_names words

@@ -5,10 +5,6 @@ use Rattle.replay_lines.specs.Fields.{put_fields}
 use Rattle.replay_state.specs.Whole.{settings}
 use Rattle.replay_state.proofs.put_settings.Goals as goal
 
-pub shape_of-out : goal.shape_of-out
-unfolding key_names keys put_fields settings
-shape_of-out c = search rules
-
 pub returns : goal.returns
 unfolding key_names keys put_fields settings
 returns c = c.put_fields.ensures

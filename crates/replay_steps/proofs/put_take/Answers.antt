@@ -19,9 +19,6 @@ slice_bounds-copy-end-2 c = let f = c.take_phone_validations_save-o in left_insi
 pub slice_bounds-put_output-end : goal.slice_bounds-put_output-end
 slice_bounds-put_output-end c = let f = c.take_phone_validations_save-o in left_whole _ _ f.new.1.0 c.copy_of-copy.ensures f.auto.1.0
 
-pub shape_of-out : goal.shape_of-out
-shape_of-out c = c.put_calm.auto.1.0 ∙ c.put_output-k.auto.0 ∙ c.put_answer-k.auto.0
-
 pub returns : goal.returns
 unfolding ran laid
 returns c =

@@ -5,17 +5,9 @@ use Rattle.replay_items.specs.Bytes.{lent_bytes}
 use Rattle.replay_given.specs.Turns.{ran}
 use Rattle.replay_steps.proofs.run.Goals as goal
 
-pub shape_of-out-then-name-lt-PHONE_CALLS : goal.shape_of-out-then-name-lt-PHONE_CALLS
-unfolding ran
-shape_of-out-then-name-lt-PHONE_CALLS c = search rules
-
 pub returns-then-name-lt-PHONE_CALLS : goal.returns-then-name-lt-PHONE_CALLS
 unfolding ran
 returns-then-name-lt-PHONE_CALLS c = let a = c.args in rw (line_phone a.i (lent_bytes a.p a.room.now) a.name c.if-name-lt-PHONE_CALLS.true, ← c.phone_call-o.ensures) c.put_outcome.ensures
-
-pub shape_of-out-then-can-lt-CAN_CALLS : goal.shape_of-out-then-can-lt-CAN_CALLS
-unfolding ran
-shape_of-out-then-can-lt-CAN_CALLS c = search rules
 
 pub returns-then-can-lt-CAN_CALLS : goal.returns-then-can-lt-CAN_CALLS
 unfolding ran
@@ -24,10 +16,6 @@ returns-then-can-lt-CAN_CALLS c = let a = c.args in rw (line_can a.i (lent_bytes
 pub run_asking-requires : goal.run_asking-requires
 unfolding ran
 run_asking-requires c = c.requires
-
-pub shape_of-out : goal.shape_of-out
-unfolding ran
-shape_of-out c = search rules
 
 pub returns : goal.returns
 unfolding ran

@@ -24,25 +24,13 @@ pub overflow_sub-name : goal.overflow_sub-name
 unfolding lent_bytes
 overflow_sub-name c = let three = c.in_default.rest.1 in let two = c.in_default.rest.0.1 in let one = c.in_default.rest.0.0.1 in let zero = c.in_default.rest.0.0.0.1 in omega arith
 
-pub shape_of-out-in-0 : goal.shape_of-out-in-0
-unfolding lent_bytes
-shape_of-out-in-0 c = search rules
-
 pub returns-in-0 : goal.returns-in-0
 unfolding ran laid rest_line rest_lines other_lines
 returns-in-0 c = rw c.in-0.keys1 (rw c.with_counters-set.ensures at c.put_done.ensures)
 
-pub shape_of-out-in-1 : goal.shape_of-out-in-1
-unfolding lent_bytes
-shape_of-out-in-1 c = search rules
-
 pub returns-in-1 : goal.returns-in-1
 unfolding ran rest_line rest_lines other_lines
 returns-in-1 c = rw c.in-1.keys2 (rw (c.not_called.ensures, c.put_gate-k.ensures), upto turn_room (lit≤ tt) (gate_in c.args.h.gate _ c.well_formed.0.1.1.0))
-
-pub shape_of-out-in-2 : goal.shape_of-out-in-2
-unfolding lent_bytes
-shape_of-out-in-2 c = search rules
 
 pub returns-in-2 : goal.returns-in-2
 unfolding ran lent_bytes rest_line rest_lines other_lines
@@ -51,17 +39,9 @@ returns-in-2 c =
     let v = c.put_conversion-k.ensures in
     rw (c.in-2.keys3, ← c.lent-saved.ensures, ← c.lent-lent.ensures) (rw (← v.0) k.0, upto turn_room (lit≤ tt) (v.1 ⊕ k.1))
 
-pub shape_of-out-in-3 : goal.shape_of-out-in-3
-unfolding lent_bytes
-shape_of-out-in-3 c = search rules
-
 pub returns-in-3 : goal.returns-in-3
 unfolding lent_bytes rest_line rest_lines other_lines
 returns-in-3 c = rw (c.in-3.keys4, ← c.lent-lent.ensures) c.put_take.ensures
-
-pub shape_of-out-in_default : goal.shape_of-out-in_default
-unfolding lent_bytes
-shape_of-out-in_default c = search rules
 
 pub returns-in_default : goal.returns-in_default
 returns-in_default c =

@@ -14,10 +14,6 @@ pub slice_bounds-bytes-end : goal.slice_bounds-bytes-end
 unfolding shown
 slice_bounds-bytes-end c = search rules
 
-pub shape_of-out-then-v : goal.shape_of-out-then-v
-unfolding shown
-shape_of-out-then-v c = search rules
-
 pub returns-then-v : goal.returns-then-v
 unfolding shown
 returns-then-v c =

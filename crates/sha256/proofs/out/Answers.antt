@@ -13,7 +13,7 @@ put-requires c = omega (arith, ap length c.big4.ensures)
 pub loop-i-preserved : goal.loop-i-preserved
 loop-i-preserved c =
     let l = c.loop-i in
-    let s = c.args.t1 in
+    let s = c.args.s in
     let n : length s ≡ 8 = search rules in
     let e = c.put.ensures ∙ ap (λ (b : List ℕ). put l.r (4 * l.i) b) c.big4.ensures in
     (omega arith, omega (arith, c.put.auto.0), bytes_step s l.r _ l.i (omega arith) (omega arith) l.invariant.2 e)
@@ -21,7 +21,7 @@ loop-i-preserved c =
 pub returns : goal.returns
 returns c =
     let l = c.loop-i in
-    let s = c.args.t1 in
+    let s = c.args.s in
     let n : length s ≡ 8 = search rules in
     let e : l.i ≡ 8 = omega arith in
     sym (take_all 32 l.r (omega arith)) ∙ (rw e at l.invariant.2) ∙ ap bytes (take_all 8 s (omega arith))

@@ -17,4 +17,4 @@ returns c =
     let l = c.loop-i in
     let a = c.args in
     let e : l.i ≡ 8 = omega arith in
-    sym (take_all 8 l.r (omega arith)) ∙ (rw e at l.invariant.4) ∙ ap₂ plus (take_all 8 a.t1 (omega arith)) (take_all 8 a.t2 (omega arith))
+    sym (take_all 8 l.r (omega arith)) ∙ (rw e at l.invariant.4) ∙ ap₂ plus (take_all 8 a.v (omega arith)) (take_all 8 a.s (omega arith))

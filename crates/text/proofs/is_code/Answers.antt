@@ -10,7 +10,7 @@ use Rattle.text.proofs.Groups.{ten_length, ten_bytes, same_ten}
 use Rattle.text.proofs.is_code.Goals as goal
 
 -- the code's bytes
-nine : (c : tie.Start) → length c.args.t1 ≡ 9
+nine : (c : tie.Start) → length c.args.code ≡ 9
 nine c = search rules
 
 -- no more bytes are counted than there are
@@ -33,5 +33,5 @@ returns c =
     let a = c.args in
     let u = ungrouped a.s.now in
     let n = nine c in
-    rw (← same_ten u (take a.n a.t1) (rw length-take (omega arith)), ← ten_bytes u, ← c.ungroup-g.ensures, ← take_clamped a.t1 a.n 9 n, ← c.clamp-k.ensures)
+    rw (← same_ten u (take a.n a.code) (rw length-take (omega arith)), ← ten_bytes u, ← c.ungroup-g.ensures, ← take_clamped a.code a.n 9 n, ← c.clamp-k.ensures)
     c.same_all.ensures

@@ -6,9 +6,6 @@ use Rattle.match_logs.proofs.Logs.{answer_laid}
 use borrow.Author.Rules.{rules}
 use Rattle.match_logs.proofs.texts.put_answer.Goals as goal
 
-pub shape_of-out : goal.shape_of-out
-shape_of-out c = c.put_text.auto.0 ∙ c.put_words-k.auto.0
-
 pub returns : goal.returns
 returns c =
     let a = c.args in

@@ -14,11 +14,3 @@ enum_known-laid c = search rules
 pub enum_told-1 : goal.enum_told-1
 unfolding bytes_at has_bytes
 enum_told-1 c = search rules
-
-pub shape_of-room-in-To : goal.shape_of-room-in-To
-unfolding bytes_at has_bytes
-shape_of-room-in-To c = search rules
-
-pub shape_of-room-in-NoBytes : goal.shape_of-room-in-NoBytes
-unfolding bytes_at has_bytes
-shape_of-room-in-NoBytes c = search rules

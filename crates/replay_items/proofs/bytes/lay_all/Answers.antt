@@ -10,10 +10,6 @@ use Rattle.replay_items.proofs.Laws.{begin, next, whole, less, fitted, lent_in}
 use Rattle.replay_items.proofs.Together.{joined_size}
 use Rattle.replay_items.proofs.bytes.lay_all.Goals as goal
 
-pub shape_of-room : goal.shape_of-room
-unfolding bytes_of ends_of has_at joined lent_bytes
-shape_of-room c = c.lay-h.auto.1.1.1.0 ∙ c.lay-g.auto.1.1.1.0 ∙ c.lay-f.auto.1.1.1.0 ∙ c.lay-e.auto.1.1.1.0 ∙ c.lay-d.auto.1.1.1.0 ∙ c.lay-c.auto.1.1.1.0 ∙ c.lay-b.auto.1.1.1.0 ∙ c.lay-a.auto.1.1.1.0
-
 pub returns : goal.returns
 unfolding bytes_of ends_of has_at joined lent_bytes
 returns c =

@@ -25,19 +25,3 @@ enum_known-h-in-Reply-1 c = c.in-Reply.keys5
 pub enum_known-h-in-Wrong-1 : goal.enum_known-h-in-Wrong-1
 unfolding key_names keys
 enum_known-h-in-Wrong-1 c = c.in-Wrong.keys6
-
-pub shape_of-out-in-Item : goal.shape_of-out-in-Item
-unfolding key_names keys
-shape_of-out-in-Item c = search rules
-
-pub shape_of-out-in-Part : goal.shape_of-out-in-Part
-unfolding key_names keys
-shape_of-out-in-Part c = search rules
-
-pub shape_of-out-in-Reply : goal.shape_of-out-in-Reply
-unfolding key_names keys
-shape_of-out-in-Reply c = search rules
-
-pub shape_of-out-in-Wrong : goal.shape_of-out-in-Wrong
-unfolding key_names keys
-shape_of-out-in-Wrong c = search rules

@@ -13,10 +13,6 @@ pub overflow_cast-fields-2 : goal.overflow_cast-fields-2
 unfolding key_names keys put_fields reply
 overflow_cast-fields-2 c = search rules
 
-pub shape_of-out : goal.shape_of-out
-unfolding key_names keys put_fields reply
-shape_of-out c = search rules
-
 pub returns : goal.returns
 unfolding key_names keys put_fields reply
 returns c = rw (← c.kind_word-kind.ensures, ← c.status_word-status.ensures) c.put_fields.ensures

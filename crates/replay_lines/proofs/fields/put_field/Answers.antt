@@ -33,31 +33,3 @@ enum_known-f-in-Digits-1 c = c.in-Digits.keys7
 pub enum_known-f-in-Known-1 : goal.enum_known-f-in-Known-1
 unfolding flag item word
 enum_known-f-in-Known-1 c = c.in-Known.keys8
-
-pub shape_of-out-in-Key : goal.shape_of-out-in-Key
-unfolding flag item word
-shape_of-out-in-Key c = search rules
-
-pub shape_of-out-in-Number : goal.shape_of-out-in-Number
-unfolding flag item word
-shape_of-out-in-Number c = search rules
-
-pub shape_of-out-in-Flag : goal.shape_of-out-in-Flag
-unfolding flag item word
-shape_of-out-in-Flag c = search rules
-
-pub shape_of-out-in-Word : goal.shape_of-out-in-Word
-unfolding flag item word
-shape_of-out-in-Word c = search rules
-
-pub shape_of-out-in-Bytes : goal.shape_of-out-in-Bytes
-unfolding flag item word
-shape_of-out-in-Bytes c = search rules
-
-pub shape_of-out-in-Digits : goal.shape_of-out-in-Digits
-unfolding flag item word
-shape_of-out-in-Digits c = search rules
-
-pub shape_of-out-in-Known : goal.shape_of-out-in-Known
-unfolding flag item word
-shape_of-out-in-Known c = search rules

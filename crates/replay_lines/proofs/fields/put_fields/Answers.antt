@@ -17,18 +17,15 @@ loop-i-preserved c =
     let a = c.args in
     let l = c.loop-i in
     let f = c.put_field-k in
-    let far : length a.t4 ≡ 8 = search rules in (
+    let far : length a.fields ≡ 8 = search rules in (
       omega arith,
       f.auto.0 ∙ l.invariant.1,
-      fields_again a.lent.now a.t4 l.i (page a.out.now a.at) (page l.out l.k) l.invariant.2 Nothing (page f.new.0 f.result) (omega arith) f.ensures,
+      fields_again a.lent.now a.fields l.i (page a.out.now a.at) (page l.out l.k) l.invariant.2 Nothing (page f.new.0 f.result) (omega arith) f.ensures,
     )
-
-pub shape_of-out : goal.shape_of-out
-shape_of-out c = c.loop-i.invariant.1
 
 pub returns : goal.returns
 returns c =
     let a = c.args in
     let l = c.loop-i in
-    let far : length a.t4 ≡ 8 = search rules in
-    fields_end a.lent.now a.t4 l.i (page a.out.now a.at) (page l.out l.k) l.invariant.2 (omega arith)
+    let far : length a.fields ≡ 8 = search rules in
+    fields_end a.lent.now a.fields l.i (page a.out.now a.at) (page l.out l.k) l.invariant.2 (omega arith)

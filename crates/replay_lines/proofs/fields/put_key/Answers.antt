@@ -4,10 +4,6 @@ use Rattle.replay_lines.specs.Table.{key_names, keys}
 use Rattle.word_table.specs.Words.{lines_of}
 use Rattle.replay_lines.proofs.fields.put_key.Goals as goal
 
-pub shape_of-out : goal.shape_of-out
-unfolding key_names keys lines_of
-shape_of-out c = search rules
-
 pub returns : goal.returns
 unfolding key_names keys lines_of
 returns c = c.put_row.ensures

@@ -4,10 +4,6 @@ use Rattle.replay_lines.specs.Table.{word_names, words}
 use Rattle.word_table.specs.Words.{lines_of}
 use Rattle.replay_lines.proofs.fields.put_word.Goals as goal
 
-pub shape_of-out : goal.shape_of-out
-unfolding lines_of word_names words
-shape_of-out c = search rules
-
 pub returns : goal.returns
 unfolding lines_of word_names words
 returns c = c.put_row.ensures

@@ -2,10 +2,6 @@ use Rattle.replay_lines.specs.Parts.{method}
 use borrow.Author.Rules.{rules}
 use Rattle.replay_lines.proofs.parts.put_method.Goals as goal
 
-pub shape_of-out : goal.shape_of-out
-unfolding method
-shape_of-out c = search rules
-
 pub returns : goal.returns
 unfolding method
 returns c = rw (← c.put_phone-k.ensures, ← c.put_text-k.ensures, ← c.kind_word-kind.ensures, ← c.put_word-k.ensures, ← c.put_flag.ensures)

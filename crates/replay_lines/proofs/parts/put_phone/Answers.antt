@@ -6,10 +6,6 @@ pub slice_bounds-put_first-end : goal.slice_bounds-put_first-end
 unfolding id_bytes
 slice_bounds-put_first-end c = search rules
 
-pub shape_of-out : goal.shape_of-out
-unfolding id_bytes
-shape_of-out c = search rules
-
 pub returns : goal.returns
 unfolding id_bytes
 returns c = rw (← c.put_first.ensures)

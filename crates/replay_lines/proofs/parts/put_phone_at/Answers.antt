@@ -2,10 +2,6 @@ use mathlib.Core.Path.{◌∙◌}
 use Rattle.replay_lines.specs.Parts.{id_at}
 use Rattle.replay_lines.proofs.parts.put_phone_at.Goals as goal
 
-pub shape_of-out : goal.shape_of-out
-unfolding id_at
-shape_of-out c = c.put_bytes.auto.0 ∙ c.put_comma-k.auto.0
-
 pub returns : goal.returns
 unfolding id_at
 returns c = rw (c.put_bytes.ensures, c.put_comma-k.ensures)

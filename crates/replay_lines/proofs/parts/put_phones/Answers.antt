@@ -14,7 +14,7 @@ use Rattle.replay_lines.proofs.parts.put_phones.Goals as goal
 pub loop-i-init : goal.loop-i-init
 unfolding phones_of
 loop-i-init c =
-    let far : length c.args.t3.lens ≡ 32 = search rules in
+    let far : length c.args.l.lens ≡ 32 = search rules in
     (walk_none _ _ _ _ far c.clamp-n.ensures, refl, refl)
 
 pub loop-i-preserved : goal.loop-i-preserved
@@ -31,10 +31,6 @@ loop-i-preserved c =
       put.auto.0 ∙ loop.invariant.1,
       ids_again _ loop.i (page a.out.now a.at) (page loop.out loop.k) loop.invariant.2 (page put.new.0 put.result) (omega arith) printed,
     )
-
-pub shape_of-out : goal.shape_of-out
-unfolding phones_of
-shape_of-out c = c.loop-i.invariant.1
 
 pub returns : goal.returns
 unfolding phones_of

@@ -7,10 +7,6 @@ pub slice_bounds-put_bytes-end : goal.slice_bounds-put_bytes-end
 unfolding frame
 slice_bounds-put_bytes-end c = search rules
 
-pub shape_of-out : goal.shape_of-out
-unfolding frame
-shape_of-out c = c.put_bytes.auto.0 ∙ c.put_text-k.auto.0 ∙ c.put_id-k.auto.0
-
 pub returns : goal.returns
 unfolding frame
 returns c = rw (c.put_bytes.ensures, c.put_text-k.ensures, c.put_id-k.ensures)

@@ -12,10 +12,6 @@ pub bounds-w-i : goal.bounds-w-i
 unfolding frame_at
 bounds-w-i c = search rules
 
-pub shape_of-out-then-i-w : goal.shape_of-out-then-i-w
-unfolding frame_at
-shape_of-out-then-i-w c = c.put_frame.auto.0 ∙ c.put_comma-k.auto.0
-
 pub returns-then-i-w : goal.returns-then-i-w
 unfolding frame_at
 returns-then-i-w c = rw (c.put_frame.ensures, c.put_comma-k.ensures, lt-ltb _ _ c.if-i-w.true)

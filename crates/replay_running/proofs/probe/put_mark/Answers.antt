@@ -2,17 +2,9 @@ use borrow.Author.Rules.{rules}
 use Rattle.replay_lines.specs.Table.{words, word_names}
 use Rattle.replay_running.proofs.probe.put_mark.Goals as goal
 
-pub shape_of-out-then-heard : goal.shape_of-out-then-heard
-unfolding word_names words
-shape_of-out-then-heard c = search rules
-
 pub returns-then-heard : goal.returns-then-heard
 unfolding word_names words
 returns-then-heard c = rw c.if-heard.true c.put_field.ensures
-
-pub shape_of-out : goal.shape_of-out
-unfolding word_names words
-shape_of-out c = search rules
 
 pub returns : goal.returns
 unfolding word_names words

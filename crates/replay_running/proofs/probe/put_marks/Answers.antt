@@ -35,10 +35,6 @@ pub bounds-ms-3 : goal.bounds-ms-3
 unfolding key_names keys marks
 bounds-ms-3 c = search rules
 
-pub shape_of-out : goal.shape_of-out
-unfolding key_names keys marks
-shape_of-out c = search rules
-
 pub returns : goal.returns
 unfolding key_names keys marks
 returns c = rw (c.put_mark.ensures, c.put_mark-k-3.ensures, c.put_mark-k-2.ensures, c.put_mark-k.ensures)

@@ -12,10 +12,6 @@ pub overflow_cast-fields-2 : goal.overflow_cast-fields-2
 unfolding key_names keys probe put_fields
 overflow_cast-fields-2 c = search rules
 
-pub shape_of-out : goal.shape_of-out
-unfolding key_names keys probe put_fields
-shape_of-out c = search rules
-
 pub returns : goal.returns
 unfolding key_names keys probe put_fields
 returns c = rw (c.put_marks.ensures, c.put_fields-k.ensures, c.put_window-k.ensures)

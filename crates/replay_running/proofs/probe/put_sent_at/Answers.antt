@@ -8,17 +8,9 @@ pub bounds-w-i : goal.bounds-w-i
 unfolding sent_at
 bounds-w-i c = search rules
 
-pub shape_of-out-then-one : goal.shape_of-out-then-one
-unfolding sent_at
-shape_of-out-then-one c = c.put_text.auto.0
-
 pub returns-then-one : goal.returns-then-one
 unfolding sent_at
 returns-then-one c = rw (c.put_text.ensures, lt-ltb _ _ c.if-i-w.true, c.if-one.true)
-
-pub shape_of-out-then-i-w : goal.shape_of-out-then-i-w
-unfolding sent_at
-shape_of-out-then-i-w c = c.put_text-then-i-w.auto.0
 
 pub returns-then-i-w : goal.returns-then-i-w
 unfolding sent_at

@@ -12,17 +12,9 @@ pub overflow_cast-fields-then-w : goal.overflow_cast-fields-then-w
 unfolding key_names keys put_fields window word_names words
 overflow_cast-fields-then-w c = search rules
 
-pub shape_of-out-then-w : goal.shape_of-out-then-w
-unfolding key_names keys put_fields window word_names words
-shape_of-out-then-w c = search rules
-
 pub returns-then-w : goal.returns-then-w
 unfolding key_names keys put_fields window word_names words
 returns-then-w c = rw (c.put_sent_list.ensures, c.put_fields-k-then-w.ensures, c.put_frame_list-k.ensures, c.put_fields-k.ensures, c.if-w.true)
-
-pub shape_of-out : goal.shape_of-out
-unfolding key_names keys put_fields window word_names words
-shape_of-out c = search rules
 
 pub returns : goal.returns
 unfolding key_names keys put_fields window word_names words

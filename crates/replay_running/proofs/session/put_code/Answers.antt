@@ -8,17 +8,9 @@ pub slice_bounds-put_field-end : goal.slice_bounds-put_field-end
 unfolding code digits key_names keys word
 slice_bounds-put_field-end c = search rules
 
-pub shape_of-out-then-code_in_progress : goal.shape_of-out-then-code_in_progress
-unfolding code digits key_names keys word
-shape_of-out-then-code_in_progress c = search rules
-
 pub returns-then-code_in_progress : goal.returns-then-code_in_progress
 unfolding code digits key_names keys word
 returns-then-code_in_progress c = rw (c.put_field.ensures, ← c.code_in_progress.ensures, c.if-code_in_progress.true)
-
-pub shape_of-out : goal.shape_of-out
-unfolding code digits key_names keys word
-shape_of-out c = search rules
 
 pub returns : goal.returns
 unfolding code digits key_names keys word

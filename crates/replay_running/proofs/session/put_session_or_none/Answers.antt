@@ -3,17 +3,9 @@ use Rattle.replay_lines.specs.Table.{keys, key_names, words, word_names}
 use Rattle.replay_running.specs.Session.{session_or_none}
 use Rattle.replay_running.proofs.session.put_session_or_none.Goals as goal
 
-pub shape_of-out-then-s : goal.shape_of-out-then-s
-unfolding key_names keys session_or_none word_names words
-shape_of-out-then-s c = search rules
-
 pub returns-then-s : goal.returns-then-s
 unfolding key_names keys session_or_none word_names words
 returns-then-s c = rw (c.put_code.ensures, c.put_stands-k.ensures, c.put_whose-k.ensures, c.if-s.true)
-
-pub shape_of-out : goal.shape_of-out
-unfolding key_names keys session_or_none word_names words
-shape_of-out c = search rules
 
 pub returns : goal.returns
 unfolding key_names keys session_or_none word_names words

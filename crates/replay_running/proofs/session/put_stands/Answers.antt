@@ -10,10 +10,6 @@ pub slice_bounds-put_fields-end : goal.slice_bounds-put_fields-end
 unfolding key_names keys known put_fields stands
 slice_bounds-put_fields-end c = search rules
 
-pub shape_of-out : goal.shape_of-out
-unfolding key_names keys known put_fields stands
-shape_of-out c = search rules
-
 pub returns : goal.returns
 unfolding key_names keys known put_fields stands
 returns c = rw (← c.status_word-status.ensures) c.put_fields.ensures

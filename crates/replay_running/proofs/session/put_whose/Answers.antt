@@ -14,10 +14,6 @@ pub slice_bounds-put_fields-end : goal.slice_bounds-put_fields-end
 unfolding id_bytes key_names keys put_fields whose
 slice_bounds-put_fields-end c = search rules
 
-pub shape_of-out : goal.shape_of-out
-unfolding id_bytes key_names keys put_fields whose
-shape_of-out c = search rules
-
 pub returns : goal.returns
 unfolding id_bytes key_names keys put_fields whose
 returns c = c.put_fields.ensures
