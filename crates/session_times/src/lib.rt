@@ -27,6 +27,7 @@ pub fn seconds_to(until: u64, clock: u64) -> u32
 }
 
 // The wrapping sum, zero skipped.
+#[tactic(auto, unfolding(crate::specs::Times::next_number))]
 pub fn next_number(n: u32) -> u32
     ensures { result ≡ next_number n }
 {
