@@ -6,4 +6,4 @@ use Rattle.input.specs.declared.Input.TheVariants.{Bytes, Failed}
 -- no more bytes than the buffer holds
 abbrev pub Within : ℕ → Input → Type 0
 Within size (Bytes n) = n ≤ size
-Within size Failed = Unit {0}
+Within size (Failed _) = Unit {0}

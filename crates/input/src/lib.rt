@@ -1,31 +1,50 @@
-// What a program reads: a file or a stream to its end, into memory that the caller lends.
+// What a program reads: a file or a stream to its end, into memory that the caller lends, and its arguments.
 #![tactic(auto)]
 
-ghost use Rattle.std.specs.Prelude.{length};
+ghost use Rattle.std.specs.Prelude.{◌≤◌, length};
 ghost use Rattle.input.specs.Input.{Within};
 
-// The first bytes of a buffer, as many as the number says, or a read that failed.
+use std::env::{Env, FillError};
+use std::io::{Error, Read};
+
+// The first bytes of a buffer, as many as the number says, or a read that failed, and why.
 #[derive(Clone, Copy)]
 pub enum Input {
     Bytes(usize),
-    Failed,
+    Failed(Error),
 }
 
 // Reads to the end of a file, or until `buf` is full. What it reads and how much is open; it is no more than `buf` holds.
-pub fn read_input(fd: i32, buf: &mut [u8]) -> Input
+pub fn read_input<R: Read>(reader: &mut R, buf: &mut [u8]) -> Input
     ensures { Within (length buf.new) result }
 {
     let mut n = 0;
     while n < buf.len() {
-        let got = libc::read(fd, &mut buf[n..]);
-        if got < 0 {
-            return Input::Failed;
+        match reader.read(&mut buf[n..]) {
+            Ok(0) => return Input::Bytes(n),
+            Ok(more) => n += more,
+            Err(e) => return Input::Failed(e),
         }
-        let more = io::count(got, &buf[n..]);
-        if more == 0 {
-            return Input::Bytes(n);
-        }
-        n += more;
     }
     Input::Bytes(n)
+}
+
+// With how many arguments a program was started, its own name among them.
+pub fn arg_count(rt: &impl Env) -> usize {
+    for i in 0..usize::MAX {
+        if let Err(FillError::NotPresent) = rt.arg(i, &mut []) {
+            return i;
+        }
+    }
+    usize::MAX
+}
+
+// Puts an argument at the front of `buf`, and answers its length; 0 where there is none or it is longer than `buf`.
+pub fn arg(rt: &impl Env, place: usize, buf: &mut [u8]) -> usize
+    ensures { result ≤ length buf.new }
+{
+    match rt.arg(place, buf) {
+        Ok(n) => n,
+        Err(_) => 0,
+    }
 }
