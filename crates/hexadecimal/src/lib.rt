@@ -49,7 +49,6 @@ pub fn hex_value(b: u8) -> HexValue
 }
 
 // Writes two digits for each byte of `src` over `dst` from `at` on; the rest of `dst` stays.
-#[tactic(auto, unfolding(arrays::specs::Arrays::put))]
 pub fn put_hex(dst: &mut [u8], at: usize, src: &[u8])
     requires { at + 2 * length src.now ≤ length dst.old }
     ensures { dst.new ≡ put dst.old at (hex_of src.now) }

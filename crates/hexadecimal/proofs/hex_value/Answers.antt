@@ -2,7 +2,6 @@
 use Rattle.hexadecimal.specs.Hex.{value_of}
 use native.Mathlib.Omega.{arith}
 use borrow.Author.Tests.{lt-ltb, le-ltb}
-use borrow.Author.Rules.{rules}
 use Rattle.hexadecimal.proofs.hex_value.Goals as goal
 
 pub returns-then-b-lt48 : goal.returns-then-b-lt48

@@ -1,6 +1,6 @@
 use mathlib.Core.Path.{◌≡◌, refl, ap, ◌∙◌}
 use mathlib.Core.List.{List, ◌++◌}
-use Prim.Native.Nat.{ℕ, ◌+◌, ◌*◌, ◌≤◌, ◌-◌}
+use Prim.Native.Nat.{ℕ, ◌+◌, ◌*◌}
 use native.Mathlib.Omega.{arith}
 use lib.ListN.{length, take, drop, length-set}
 use lib.Seq.{paste, paste-zero, take-length}
@@ -25,3 +25,13 @@ returns c =
     l.invariant.2
     ∙ ap (λ (k : ℕ). paste a.dst.now a.at h k) e
     ∙ ap (λ (x : List ℕ). take a.at a.dst.now ++ x ++ drop (a.at + length h) a.dst.now) (take-length h)
+
+pub loop-i-preserved : goal.loop-i-preserved
+loop-i-preserved c =
+    let a = c.args in
+    let l = c.loop-i in (
+      omega arith,
+      simp length-set (omega arith),
+      rw (l.invariant.2, c.hex_digit-low.ensures, c.hex_digit-high.ensures)
+          (hex_turn a.dst.now a.at a.src.now l.i (omega arith) (omega arith) (omega (arith, c.type_inv.src l.i))),
+    )

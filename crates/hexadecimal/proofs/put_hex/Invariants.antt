@@ -1,14 +1,10 @@
 -- `hexadecimal::put_hex` meets its contract. The invariant: the digits of the first i bytes are written.
 -- Assumes nothing.
-use mathlib.Core.Path.{◌≡◌, refl, ap, ◌∙◌}
-use mathlib.Core.List.{List, ◌++◌}
-use Prim.Native.Nat.{ℕ, ◌+◌, ◌*◌, ◌≤◌, ◌-◌}
-use native.Mathlib.Omega.{arith}
-use lib.ListN.{length, take, drop, length-set}
-use lib.Seq.{paste, paste-zero, take-length}
-use Rattle.arrays.specs.Arrays.{put}
+use mathlib.Core.Path.{◌≡◌}
+use Prim.Native.Nat.{◌*◌, ◌≤◌, ◌-◌}
+use lib.ListN.{length}
+use lib.Seq.{paste}
 use Rattle.hexadecimal.specs.Hex.{hex_of}
-use Rattle.hexadecimal.proofs.Laws.{hex_length, hex_turn}
 use Rattle.hexadecimal.proofs.put_hex.Given as goal
 
 abbrev pub invariant-loop-i : goal.invariant-loop-i
