@@ -1,5 +1,5 @@
 -- Rounds and sums, one after the other.
-use Rattle.std.proofs.Common.{ℕ, List, ap, ◌∙◌, rules}
+use Rattle.std.proofs.Common.{ℕ, List, ap, ◌∙◌}
 use Rattle.sha256_block.specs.Block.{plus}
 use Rattle.sha256_block.proofs.compress.Goals as goal
 

@@ -1,4 +1,4 @@
-use Rattle.std.proofs.Common.{◌≡◌, ◌-◌, ◌≤◌, length, take, sym, refl, ◌∙◌, ap₂, arith, length-set, take_all, rules}
+use Rattle.std.proofs.Common.{◌≡◌, sym, refl, ◌∙◌, ap₂, arith, length-set, take_all, rules}
 use Rattle.sha256_block.specs.Block.{plus}
 use Rattle.sha256_block.proofs.Laws.{plus_step}
 use Rattle.sha256_block.proofs.plus.Goals as goal

@@ -1,7 +1,6 @@
 -- The invariant: the first i sums are made.
-use Rattle.std.proofs.Common.{◌≡◌, ◌-◌, ◌≤◌, length, take, sym, refl, ◌∙◌, ap₂, arith, length-set, take_all, rules}
+use Rattle.std.proofs.Common.{◌≡◌, ◌-◌, ◌≤◌, length, take}
 use Rattle.sha256_block.specs.Block.{plus}
-use Rattle.sha256_block.proofs.Laws.{plus_step}
 use Rattle.sha256_block.proofs.plus.Given as goal
 
 abbrev pub invariant-loop-i : goal.invariant-loop-i

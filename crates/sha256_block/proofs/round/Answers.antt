@@ -1,5 +1,4 @@
 -- `block::round` meets its contract.
-use Rattle.std.proofs.Common.{rules}
 use Rattle.sha256_block.proofs.round.Goals as goal
 
 pub returns : goal.returns

@@ -1,4 +1,4 @@
-use Rattle.std.proofs.Common.{◌≡◌, ℕ, ◌+◌, ◌-◌, ◌%◌, ◌≤◌, List, length, refl, arith, rules}
+use Rattle.std.proofs.Common.{◌≡◌, ℕ, ◌+◌, ◌≤◌, List, refl, arith}
 use Rattle.sha256_block.specs.Block.{K, M}
 use Rattle.sha256_block.proofs.Laws.{Held, held_none, held_all, held_first, held_later}
 use Rattle.sha256_block.proofs.working.Goals as goal
@@ -102,14 +102,14 @@ loop-t-preserved c =
     let c6 = c.first-v6 in
     let c7 = c.first-v7 in
     let c8 = c.first-v8 in
-    let h1 : Held m a.s c1.new.0 c1.result (t + 1) = held_first m a.s K l.w c1.new.0 l.v c1.result t (t + 1) (omega (arith, hi)) refl (omega arith) l.invariant.3 c1.ensures.0 c1.ensures.2 in
-    let h2 : Held m a.s c2.new.0 c2.result (t + 2) = held_first m a.s K c1.new.0 c2.new.0 c1.result c2.result (t + 1) (t + 2) (omega (arith, hi)) refl (omega arith) h1 c2.ensures.0 c2.ensures.2 in
-    let h3 : Held m a.s c3.new.0 c3.result (t + 3) = held_first m a.s K c2.new.0 c3.new.0 c2.result c3.result (t + 2) (t + 3) (omega (arith, hi)) refl (omega arith) h2 c3.ensures.0 c3.ensures.2 in
-    let h4 : Held m a.s c4.new.0 c4.result (t + 4) = held_first m a.s K c3.new.0 c4.new.0 c3.result c4.result (t + 3) (t + 4) (omega (arith, hi)) refl (omega arith) h3 c4.ensures.0 c4.ensures.2 in
-    let h5 : Held m a.s c5.new.0 c5.result (t + 5) = held_first m a.s K c4.new.0 c5.new.0 c4.result c5.result (t + 4) (t + 5) (omega (arith, hi)) refl (omega arith) h4 c5.ensures.0 c5.ensures.2 in
-    let h6 : Held m a.s c6.new.0 c6.result (t + 6) = held_first m a.s K c5.new.0 c6.new.0 c5.result c6.result (t + 5) (t + 6) (omega (arith, hi)) refl (omega arith) h5 c6.ensures.0 c6.ensures.2 in
-    let h7 : Held m a.s c7.new.0 c7.result (t + 7) = held_first m a.s K c6.new.0 c7.new.0 c6.result c7.result (t + 6) (t + 7) (omega (arith, hi)) refl (omega arith) h6 c7.ensures.0 c7.ensures.2 in
-    let h8 : Held m a.s c8.new.0 c8.result (t + 8) = held_first m a.s K c7.new.0 c8.new.0 c7.result c8.result (t + 7) (t + 8) (omega (arith, hi)) refl (omega arith) h7 c8.ensures.0 c8.ensures.2 in
+    let h1 : Held m a.s c1.new.w c1.result (t + 1) = held_first m a.s K l.w c1.new.w l.v c1.result t (t + 1) (omega (arith, hi)) refl (omega arith) l.invariant.3 c1.ensures.0 c1.ensures.2 in
+    let h2 : Held m a.s c2.new.w c2.result (t + 2) = held_first m a.s K c1.new.w c2.new.w c1.result c2.result (t + 1) (t + 2) (omega (arith, hi)) refl (omega arith) h1 c2.ensures.0 c2.ensures.2 in
+    let h3 : Held m a.s c3.new.w c3.result (t + 3) = held_first m a.s K c2.new.w c3.new.w c2.result c3.result (t + 2) (t + 3) (omega (arith, hi)) refl (omega arith) h2 c3.ensures.0 c3.ensures.2 in
+    let h4 : Held m a.s c4.new.w c4.result (t + 4) = held_first m a.s K c3.new.w c4.new.w c3.result c4.result (t + 3) (t + 4) (omega (arith, hi)) refl (omega arith) h3 c4.ensures.0 c4.ensures.2 in
+    let h5 : Held m a.s c5.new.w c5.result (t + 5) = held_first m a.s K c4.new.w c5.new.w c4.result c5.result (t + 4) (t + 5) (omega (arith, hi)) refl (omega arith) h4 c5.ensures.0 c5.ensures.2 in
+    let h6 : Held m a.s c6.new.w c6.result (t + 6) = held_first m a.s K c5.new.w c6.new.w c5.result c6.result (t + 5) (t + 6) (omega (arith, hi)) refl (omega arith) h5 c6.ensures.0 c6.ensures.2 in
+    let h7 : Held m a.s c7.new.w c7.result (t + 7) = held_first m a.s K c6.new.w c7.new.w c6.result c7.result (t + 6) (t + 7) (omega (arith, hi)) refl (omega arith) h6 c7.ensures.0 c7.ensures.2 in
+    let h8 : Held m a.s c8.new.w c8.result (t + 8) = held_first m a.s K c7.new.w c8.new.w c7.result c8.result (t + 7) (t + 8) (omega (arith, hi)) refl (omega arith) h7 c8.ensures.0 c8.ensures.2 in
     (hi, omega (arith, l.invariant.1), c8.ensures.1, h8)
 
 pub loop-t-2-init : goal.loop-t-2-init
@@ -217,14 +217,14 @@ loop-t-2-preserved c =
       omega (arith, l.invariant.2),
       c8.ensures.1,
       λ (s : List ℕ) h.
-          let h1 : Held m s c1.new.0 c1.result (t + 1) = held_later m s K l.w c1.new.0 l.v c1.result t (t + 1) (omega (arith, lo)) (omega (arith, hi)) refl (omega arith) (l.invariant.4 s h) c1.ensures.0 c1.ensures.2 in
-          let h2 : Held m s c2.new.0 c2.result (t + 2) = held_later m s K c1.new.0 c2.new.0 c1.result c2.result (t + 1) (t + 2) (omega (arith, lo)) (omega (arith, hi)) refl (omega arith) h1 c2.ensures.0 c2.ensures.2 in
-          let h3 : Held m s c3.new.0 c3.result (t + 3) = held_later m s K c2.new.0 c3.new.0 c2.result c3.result (t + 2) (t + 3) (omega (arith, lo)) (omega (arith, hi)) refl (omega arith) h2 c3.ensures.0 c3.ensures.2 in
-          let h4 : Held m s c4.new.0 c4.result (t + 4) = held_later m s K c3.new.0 c4.new.0 c3.result c4.result (t + 3) (t + 4) (omega (arith, lo)) (omega (arith, hi)) refl (omega arith) h3 c4.ensures.0 c4.ensures.2 in
-          let h5 : Held m s c5.new.0 c5.result (t + 5) = held_later m s K c4.new.0 c5.new.0 c4.result c5.result (t + 4) (t + 5) (omega (arith, lo)) (omega (arith, hi)) refl (omega arith) h4 c5.ensures.0 c5.ensures.2 in
-          let h6 : Held m s c6.new.0 c6.result (t + 6) = held_later m s K c5.new.0 c6.new.0 c5.result c6.result (t + 5) (t + 6) (omega (arith, lo)) (omega (arith, hi)) refl (omega arith) h5 c6.ensures.0 c6.ensures.2 in
-          let h7 : Held m s c7.new.0 c7.result (t + 7) = held_later m s K c6.new.0 c7.new.0 c6.result c7.result (t + 6) (t + 7) (omega (arith, lo)) (omega (arith, hi)) refl (omega arith) h6 c7.ensures.0 c7.ensures.2 in
-          let h8 : Held m s c8.new.0 c8.result (t + 8) = held_later m s K c7.new.0 c8.new.0 c7.result c8.result (t + 7) (t + 8) (omega (arith, lo)) (omega (arith, hi)) refl (omega arith) h7 c8.ensures.0 c8.ensures.2 in
+          let h1 : Held m s c1.new.w c1.result (t + 1) = held_later m s K l.w c1.new.w l.v c1.result t (t + 1) (omega (arith, lo)) (omega (arith, hi)) refl (omega arith) (l.invariant.4 s h) c1.ensures.0 c1.ensures.2 in
+          let h2 : Held m s c2.new.w c2.result (t + 2) = held_later m s K c1.new.w c2.new.w c1.result c2.result (t + 1) (t + 2) (omega (arith, lo)) (omega (arith, hi)) refl (omega arith) h1 c2.ensures.0 c2.ensures.2 in
+          let h3 : Held m s c3.new.w c3.result (t + 3) = held_later m s K c2.new.w c3.new.w c2.result c3.result (t + 2) (t + 3) (omega (arith, lo)) (omega (arith, hi)) refl (omega arith) h2 c3.ensures.0 c3.ensures.2 in
+          let h4 : Held m s c4.new.w c4.result (t + 4) = held_later m s K c3.new.w c4.new.w c3.result c4.result (t + 3) (t + 4) (omega (arith, lo)) (omega (arith, hi)) refl (omega arith) h3 c4.ensures.0 c4.ensures.2 in
+          let h5 : Held m s c5.new.w c5.result (t + 5) = held_later m s K c4.new.w c5.new.w c4.result c5.result (t + 4) (t + 5) (omega (arith, lo)) (omega (arith, hi)) refl (omega arith) h4 c5.ensures.0 c5.ensures.2 in
+          let h6 : Held m s c6.new.w c6.result (t + 6) = held_later m s K c5.new.w c6.new.w c5.result c6.result (t + 5) (t + 6) (omega (arith, lo)) (omega (arith, hi)) refl (omega arith) h5 c6.ensures.0 c6.ensures.2 in
+          let h7 : Held m s c7.new.w c7.result (t + 7) = held_later m s K c6.new.w c7.new.w c6.result c7.result (t + 6) (t + 7) (omega (arith, lo)) (omega (arith, hi)) refl (omega arith) h6 c7.ensures.0 c7.ensures.2 in
+          let h8 : Held m s c8.new.w c8.result (t + 8) = held_later m s K c7.new.w c8.new.w c7.result c8.result (t + 7) (t + 8) (omega (arith, lo)) (omega (arith, hi)) refl (omega arith) h7 c8.ensures.0 c8.ensures.2 in
           h8,
     )
 

@@ -1,8 +1,8 @@
 -- The invariant of both loops: the first t words of w are those of the schedule, and v is the working variables after t rounds.
 -- The second loop has it for whatever variables s the first loop started from.
-use Rattle.std.proofs.Common.{◌≡◌, ℕ, ◌+◌, ◌-◌, ◌%◌, ◌≤◌, List, length, refl, arith, rules}
-use Rattle.sha256_block.specs.Block.{K, M}
-use Rattle.sha256_block.proofs.Laws.{Held, held_none, held_all, held_first, held_later}
+use Rattle.std.proofs.Common.{◌≡◌, ℕ, ◌-◌, ◌%◌, ◌≤◌, List, length}
+use Rattle.sha256_block.specs.Block.{M}
+use Rattle.sha256_block.proofs.Laws.{Held}
 use Rattle.sha256_block.proofs.working.Given as goal
 
 abbrev pub invariant-loop-t : goal.invariant-loop-t
