@@ -1,10 +1,7 @@
-use borrow.Author.Rules.{rules}
 use mathlib.Core.Path.{◌≡◌, refl, ◌∙◌}
-use mathlib.Core.List.{◌++◌}
-use Prim.Native.Nat.{suc, ◌≤◌, ◌-◌}
+use Prim.Native.Nat.{suc, ◌-◌}
 use native.Mathlib.Omega.{arith}
-use lib.ListN.{length, drop, length-set}
-use Rattle.arrays.specs.Arrays.{padded}
+use lib.ListN.{length-set}
 use Rattle.draw.specs.Draw.{digits}
 use Rattle.draw.proofs.Laws.{digits_start, digits_store}
 use Rattle.draw.proofs.code_of.Goals as goal

@@ -1,13 +1,10 @@
 -- The invariant: the code is the first k digits of the rest with what stands from k on. Assumes nothing.
-use borrow.Author.Rules.{rules}
-use mathlib.Core.Path.{◌≡◌, refl, ◌∙◌}
+use mathlib.Core.Path.{◌≡◌}
 use mathlib.Core.List.{◌++◌}
-use Prim.Native.Nat.{suc, ◌≤◌, ◌-◌}
-use native.Mathlib.Omega.{arith}
-use lib.ListN.{length, drop, length-set}
+use Prim.Native.Nat.{◌≤◌}
+use lib.ListN.{length, drop}
 use Rattle.arrays.specs.Arrays.{padded}
 use Rattle.draw.specs.Draw.{digits}
-use Rattle.draw.proofs.Laws.{digits_start, digits_store}
 use Rattle.draw.proofs.code_of.Given as goal
 
 abbrev pub invariant-loop-k : goal.invariant-loop-k

@@ -1,9 +1,6 @@
 -- The invariant: p is the power of ten of the turns taken. Assumes nothing.
-use borrow.Author.Rules.{rules}
-use mathlib.Core.Path.{◌≡◌, refl}
-use Prim.Native.Nat.{◌≤◌, ◌-◌, ◌+◌, ◌^◌}
-use native.Mathlib.Omega.{arith}
-use Rattle.draw.proofs.Laws.{ten_suc, ten_small}
+use mathlib.Core.Path.{◌≡◌}
+use Prim.Native.Nat.{◌≤◌, ◌-◌, ◌^◌}
 use Rattle.draw.proofs.code_space.Given as goal
 
 abbrev pub invariant-loop-i : goal.invariant-loop-i

@@ -1,10 +1,9 @@
 -- The tests and the calls are the definition's, in its order. Assumes nothing.
 use native.Mathlib.Nat.{mod-le}
 use native.Mathlib.Omega.{arith}
-use borrow.Author.Tests.{lt-ltb, le-ltb}
-use Rattle.draw.specs.Draw.{drawn, draw_limit}
+use borrow.Author.Tests.{lt-ltb}
+use Rattle.draw.specs.Draw.{drawn}
 use Rattle.draw.proofs.Laws.{ten_pos}
-use borrow.Author.Rules.{rules}
 use Rattle.draw.proofs.draw.Goals as goal
 
 pub returns-then-n-gt9 : goal.returns-then-n-gt9

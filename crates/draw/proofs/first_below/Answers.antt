@@ -1,9 +1,5 @@
-use borrow.Author.Rules.{rules}
-use mathlib.Core.Path.{◌≡◌, refl}
-use Prim.Native.Nat.{◌≤◌, ◌-◌}
+use mathlib.Core.Path.{refl}
 use native.Mathlib.Omega.{arith}
-use lib.ListN.{length, drop}
-use Rattle.draw.specs.Draw.{first_below}
 use Rattle.draw.proofs.Laws.{group_here, group_again, group_end}
 use Rattle.draw.proofs.first_below.Goals as goal
 

@@ -1,11 +1,8 @@
 -- The invariant: the first group below the limit is the first of what is left from i on. Assumes nothing.
-use borrow.Author.Rules.{rules}
-use mathlib.Core.Path.{◌≡◌, refl}
+use mathlib.Core.Path.{◌≡◌}
 use Prim.Native.Nat.{◌≤◌, ◌-◌}
-use native.Mathlib.Omega.{arith}
 use lib.ListN.{length, drop}
 use Rattle.draw.specs.Draw.{first_below}
-use Rattle.draw.proofs.Laws.{group_here, group_again, group_end}
 use Rattle.draw.proofs.first_below.Given as goal
 
 abbrev pub invariant-loop-i : goal.invariant-loop-i

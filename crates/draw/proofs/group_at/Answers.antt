@@ -1,6 +1,5 @@
 -- Each byte is below 256, so the sum fits. Assumes nothing.
 use Rattle.draw.specs.Draw.{group}
-use borrow.Author.Rules.{rules}
 use Rattle.draw.proofs.group_at.Goals as goal
 
 pub returns : goal.returns
