@@ -1,8 +1,6 @@
-pub mod Callers
 pub mod Fair
 pub mod Gone
 pub mod Moved
 pub mod Oldest
 pub mod Places
 pub mod Round
-pub mod Sixteen
