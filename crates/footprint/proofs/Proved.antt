@@ -54,7 +54,7 @@ leaves_said ps v drawn o stores x h e =
       code = held_at (is_in code ps) v.code drawn o.code h.code;
     }
 
-leaves_core : (ps : List Part) (v : View) (drawn : List ℕ) (o : Said) → Keeps ps v.core o → Leaves ps v (Gate.ofCore v drawn o)
+leaves_core : (ps : List Part) (v : View) (drawn : List ℕ) (o : Said) → Keeps ps v.core o → Leaves ps v (Gate.of_core v drawn o)
 leaves_core ps v drawn o h = leaves_said ps v drawn o false stays h (same_either (is_in store ps) stays)
 
 leaves_lists : (ps : List Part) (v : View) (x : Listing) → KeepsLists ps x → Leaves ps v (of_lists v x)
@@ -107,26 +107,26 @@ unfolding ended some_of
 leaves_session v full k = leaves_said (session_touches k) v no_code _ _ _ (session_keeps v.core full k) (stored k)
   where
     stored : (k : SessionCall) → let e = ended v.core full k in let x = validates v.lists.store e.said.core.validation.session e.validates in x ≡ pick (session_touches k) store stays x
-    stored (Gate.cancelValidation phone clock) = refl
-    stored (Gate.completeValidationAction number clock) = refl
-    stored (Gate.tickValidation clock) = refl
+    stored (Gate.cancel_validation phone clock) = refl
+    stored (Gate.complete_validation_action number clock) = refl
+    stored (Gate.tick_validation clock) = refl
 
 leaves : (v : View) (k : Call) → Leaves (touches k) v (says v k)
 unfolding says queueing some_of
-leaves v (Gate.newGateCall settings' methods' count) = record { core = refl; paired = refl; store = refl; save = refl; queue = refl; code = refl }
-leaves v (Gate.startValidation phone method clock random) = leaves_served _ v _ (leaves_core _ v _ _ (start_keeps v.core phone method clock random _ _))
-leaves v (Gate.submitValidationCode phone typed clock) = leaves_served _ v _ (leaves_said _ v no_code _ _ _ (submit_keeps v.core phone typed clock _ _ _) refl)
-leaves v (Gate.onSession k) = leaves_served (session_touches k) v _ (leaves_session v _ k)
-leaves v (Gate.onLists k) = leaves_served (list_touches k) v _ (leaves_lists (list_touches k) v _ (lists_keep v.lists v.core.settings.bonded k))
-leaves v (Gate.onSave Gate.openPhoneValidationsSave) = leaves_served _ v _ (leaves_save _ v (saving v.lists.store v.save Gate.openPhoneValidationsSave) refl)
-leaves v (Gate.onSave (Gate.takePhoneValidationsSave out)) = leaves_served _ v _ (leaves_save _ v (saving v.lists.store v.save (Gate.takePhoneValidationsSave out)) refl)
-leaves v (Gate.onQueue (Gate.sendCanFrame list frame class owner)) = leaves_served _ v _ (leaves_sending _ v (sending v.queue list frame class owner) refl)
-leaves v (Gate.onQueue (Gate.serveCanFrames list turns clock)) =
-    let ps = queue_touches (Gate.serveCanFrames list turns clock) in
+leaves v (Gate.new_gate_call settings' methods' count) = record { core = refl; paired = refl; store = refl; save = refl; queue = refl; code = refl }
+leaves v (Gate.start_validation phone method clock random) = leaves_served _ v _ (leaves_core _ v _ _ (start_keeps v.core phone method clock random _ _))
+leaves v (Gate.submit_validation_code phone typed clock) = leaves_served _ v _ (leaves_said _ v no_code _ _ _ (submit_keeps v.core phone typed clock _ _ _) refl)
+leaves v (Gate.on_session k) = leaves_served (session_touches k) v _ (leaves_session v _ k)
+leaves v (Gate.on_lists k) = leaves_served (list_touches k) v _ (leaves_lists (list_touches k) v _ (lists_keep v.lists v.core.settings.bonded k))
+leaves v (Gate.on_save Gate.open_phone_validations_save) = leaves_served _ v _ (leaves_save _ v (saving v.lists.store v.save Gate.open_phone_validations_save) refl)
+leaves v (Gate.on_save (Gate.take_phone_validations_save out)) = leaves_served _ v _ (leaves_save _ v (saving v.lists.store v.save (Gate.take_phone_validations_save out)) refl)
+leaves v (Gate.on_queue (Gate.send_can_frame list frame class owner)) = leaves_served _ v _ (leaves_sending _ v (sending v.queue list frame class owner) refl)
+leaves v (Gate.on_queue (Gate.serve_can_frames list turns clock)) =
+    let ps = queue_touches (Gate.serve_can_frames list turns clock) in
     either (Leaves ps v) (in_range v) _ _
     (record { core = serving_keeps v.core v.lists v.queue list turns clock; paired = refl; store = refl; save = refl; queue = refl; code = refl })
     (leaves_asked ps v _)
-leaves v (Gate.onCore k) = leaves_served (touches (Gate.onCore k)) v _ (leaves_core (touches (Gate.onCore k)) v no_code _ (core_keeps v.core v.lists k))
+leaves v (Gate.on_core k) = leaves_served (touches (Gate.on_core k)) v _ (leaves_core (touches (Gate.on_core k)) v no_code _ (core_keeps v.core v.lists k))
 leaves v (Gate.ask q) = leaves_asked [] v _
 
 -- ---- the gate that it leaves

@@ -160,17 +160,17 @@ none_handed ws (becomes l) v = refl
 
 pub turn : (g : Gate) (k : Call) → goes_on k ≡ true → Turn g k
 unfolding step gives left says served queueing saying view
-turn g (Gate.newGateCall settings methods count) h = absurd (false≢true h)
-turn g (Gate.startValidation phone method clock random) h = still g _ refl (served_keeps g _ refl)
-turn g (Gate.submitValidationCode phone typed clock) h = still g _ refl (served_keeps g _ refl)
-turn g (Gate.onSession k) h = still g _ refl (served_keeps g _ refl)
-turn g (Gate.onLists k) h = still g _ refl (served_keeps g _ refl)
-turn g (Gate.onSave Gate.openPhoneValidationsSave) h = absurd (false≢true h)
-turn g (Gate.onSave (Gate.takePhoneValidationsSave out)) h = turn_take g out
-turn g (Gate.onQueue (Gate.sendCanFrame list frame class owner)) h =
+turn g (Gate.new_gate_call settings methods count) h = absurd (false≢true h)
+turn g (Gate.start_validation phone method clock random) h = still g _ refl (served_keeps g _ refl)
+turn g (Gate.submit_validation_code phone typed clock) h = still g _ refl (served_keeps g _ refl)
+turn g (Gate.on_session k) h = still g _ refl (served_keeps g _ refl)
+turn g (Gate.on_lists k) h = still g _ refl (served_keeps g _ refl)
+turn g (Gate.on_save Gate.open_phone_validations_save) h = absurd (false≢true h)
+turn g (Gate.on_save (Gate.take_phone_validations_save out)) h = turn_take g out
+turn g (Gate.on_queue (Gate.send_can_frame list frame class owner)) h =
     let x = sending g.queue list frame class owner in
     still g _ (either (HandsNone list) (in_range (view g)) _ _ (none_handed list x.lent (values x.answer)) refl) (served_keeps g _ refl)
-turn g (Gate.onQueue (Gate.serveCanFrames list turns clock)) h =
+turn g (Gate.on_queue (Gate.serve_can_frames list turns clock)) h =
     still g _ (either (HandsNone list) (in_range (view g)) _ _ refl refl) (either (λ (s : Says). s.save ≡ g.save) (in_range (view g)) _ _ refl refl)
-turn g (Gate.onCore k) h = still g _ refl (served_keeps g _ refl)
+turn g (Gate.on_core k) h = still g _ refl (served_keeps g _ refl)
 turn g (Gate.ask q) h = still g _ refl refl

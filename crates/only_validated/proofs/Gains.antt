@@ -92,20 +92,20 @@ action_is InCarAction e = refl
 
 module _ (g : Gate) (number clock : ℕ) where
   by_action_lem : GoesOn g.core clock → Validation.is_action g.core number ≡ true
-      → By g (Gate.onSession (Gate.completeValidationAction number clock)) (session g).car (id_bytes (session g).phone)
+      → By g (Gate.on_session (Gate.complete_validation_action number clock)) (session g).car (id_bytes (session g).phone)
   unfolding Validation.is_action
   by_action_lem t e =
       let p = simp and-eq-true_iff at e in
       let u = t p.0.0 in
       by_action number clock (record { running = p.0.0; of_kind = action_is _ p.1; of_phone = refl; of_car = refl; on_bike = u.0; in_time = u.1 }) (eqb-true _ _ p.0.1)
 
-  only_complete : (full : Bool) → Only (By g (Gate.onSession (Gate.completeValidationAction number clock))) (Validation.complete g.core number clock full)
+  only_complete : (full : Bool) → Only (By g (Gate.on_session (Gate.complete_validation_action number clock))) (Validation.complete g.core number clock full)
   unfolding Validation.complete Validation.completed
   only_complete full = only_ticking _ g.core clock _ _ (λ t. search (only_cond, only_not, only_succeed, by_action_lem))
 
 module _ (g : Gate) (phone typed : List ℕ) (clock : ℕ) where
   by_code_lem : GoesOn g.core clock → Validation.runs_for (session g) phone ≡ true → (method_at g.core.methods (session g).method).kind ≡ CodeEntry
-      → right g.code g.core.settings.digits typed ≡ true → By g (Gate.submitValidationCode phone typed clock) (session g).car (id_bytes (session g).phone)
+      → right g.code g.core.settings.digits typed ≡ true → By g (Gate.submit_validation_code phone typed clock) (session g).car (id_bytes (session g).phone)
   unfolding Validation.runs_for is_of
   by_code_lem t e m r =
       let p = (and-eq-true_iff (in_progress (session g)) _).0 e in
@@ -114,12 +114,12 @@ module _ (g : Gate) (phone typed : List ℕ) (clock : ℕ) where
       rw o (by_code typed clock (record { running = p.0; of_kind = m; of_phone = o; of_car = refl; on_bike = u.0; in_time = u.1 }) r)
 
   only_judged : (full : Bool) (k : Kind) → GoesOn g.core clock → Validation.runs_for (session g) phone ≡ true → (method_at g.core.methods (session g).method).kind ≡ k
-      → Only (By g (Gate.submitValidationCode phone typed clock)) (Validation.judge_as g.core clock (right g.code g.core.settings.digits typed) full k)
+      → Only (By g (Gate.submit_validation_code phone typed clock)) (Validation.judge_as g.core clock (right g.code g.core.settings.digits typed) full k)
   unfolding Validation.judge Validation.right_code
   only_judged full InCarAction t e m = only_not _ _
   only_judged full CodeEntry t e m = search (only_cond, only_not, only_succeed, by_code_lem)
 
-  only_submit : (full : Bool) → Only (By g (Gate.submitValidationCode phone typed clock)) (Validation.submit g.core phone clock (is_text typed) (right g.code g.core.settings.digits typed) full)
+  only_submit : (full : Bool) → Only (By g (Gate.submit_validation_code phone typed clock)) (Validation.submit g.core phone clock (is_text typed) (right g.code g.core.settings.digits typed) full)
   unfolding Validation.submit Validation.submitted checked
   only_submit full =
       only_cond _ (not (is_text typed)) _ _
@@ -138,20 +138,20 @@ module _ (P : List ℕ → List ℕ → Type 0) (cs : List CarIds) where
   gain_storing a x (becomes z) h = h
 
 module _ (g : Gate) where
-  gain_listing : (k : ListCall) → Gains (By g (Gate.onLists k)) (cars_of g.phones.store) (listing (lists_in g.phones) g.core.settings.bonded k).store
+  gain_listing : (k : ListCall) → Gains (By g (Gate.on_lists k)) (cars_of g.phones.store) (listing (lists_in g.phones) g.core.settings.bonded k).store
   unfolding listing view some_of Pairing.unpair Pairing.clear Validations.forget Validations.prune Validations.restore
-  gain_listing (Gate.addPairedPhone id) = rw (lists_keep (lists_in g.phones) g.core.settings.bonded (Gate.addPairedPhone id)).store (gain_stays _ _)
-  gain_listing (Gate.removePairedPhone id) = search (gain_storing, gain_forgetting)
-  gain_listing Gate.clearPairedPhones = gain_none _ _
-  gain_listing (Gate.forgetPhoneValidation id) = search (gain_storing, gain_forgetting)
-  gain_listing Gate.prunePhoneValidations = search (gain_storing, gain_pruning)
-  gain_listing (Gate.restorePhoneValidations bytes) = gain_restoring _ _ (decoded bytes) (λ car phone cs e m. by_record bytes cs e m)
+  gain_listing (Gate.add_paired_phone id) = rw (lists_keep (lists_in g.phones) g.core.settings.bonded (Gate.add_paired_phone id)).store (gain_stays _ _)
+  gain_listing (Gate.remove_paired_phone id) = search (gain_storing, gain_forgetting)
+  gain_listing Gate.clear_paired_phones = gain_none _ _
+  gain_listing (Gate.forget_phone_validation id) = search (gain_storing, gain_forgetting)
+  gain_listing Gate.prune_phone_validations = search (gain_storing, gain_pruning)
+  gain_listing (Gate.restore_phone_validations bytes) = gain_restoring _ _ (decoded bytes) (λ car phone cs e m. by_record bytes cs e m)
 
-  gain_session : (full : Bool) (k : SessionCall) → Only (By g (Gate.onSession k)) (ended g.core full k)
+  gain_session : (full : Bool) (k : SessionCall) → Only (By g (Gate.on_session k)) (ended g.core full k)
   unfolding ended
-  gain_session full (Gate.cancelValidation phone clock) = only_not _ _
-  gain_session full (Gate.completeValidationAction number clock) = only_complete g number clock full
-  gain_session full (Gate.tickValidation clock) = only_not _ _
+  gain_session full (Gate.cancel_validation phone clock) = only_not _ _
+  gain_session full (Gate.complete_validation_action number clock) = only_complete g number clock full
+  gain_session full (Gate.tick_validation clock) = only_not _ _
 
   -- a gate that gets 25 stays as it is
   abbrev Served : Call → List ℕ → List ℕ → Type 0
@@ -166,16 +166,16 @@ module _ (g : Gate) where
 
   gain_call : (k : Call) → Gains (Served k) (cars_of g.phones.store) (says (view g) k).store
   unfolding says queueing saying view
-  gain_call (Gate.newGateCall settings methods count) = gain_none _ _
-  gain_call (Gate.startValidation phone method clock random) = gain_served _ _ (gain_stays _ _)
-  gain_call (Gate.submitValidationCode phone typed clock) = gain_served _ _ (gain_ended _ _ _ _ (only_submit g phone typed clock _).only)
-  gain_call (Gate.onSession k) = gain_served _ _ (gain_ended _ _ _ _ (gain_session _ k).only)
-  gain_call (Gate.onLists k) = gain_served _ _ (gain_listing k)
-  gain_call (Gate.onSave k) = gain_served _ _ (gain_stays _ _)
-  gain_call (Gate.onQueue (Gate.sendCanFrame list frame class owner)) = gain_served _ _ (gain_stays _ _)
-  gain_call (Gate.onQueue (Gate.serveCanFrames list turns clock)) =
-      cases (λ (x : Says). Gains (Served (Gate.onQueue (Gate.serveCanFrames list turns clock))) (cars_of g.phones.store) x.store) (in_range (view g)) _ _ (λ r. gain_stays _ _) (λ r. gain_stays _ _)
-  gain_call (Gate.onCore k) = gain_served _ _ (gain_stays _ _)
+  gain_call (Gate.new_gate_call settings methods count) = gain_none _ _
+  gain_call (Gate.start_validation phone method clock random) = gain_served _ _ (gain_stays _ _)
+  gain_call (Gate.submit_validation_code phone typed clock) = gain_served _ _ (gain_ended _ _ _ _ (only_submit g phone typed clock _).only)
+  gain_call (Gate.on_session k) = gain_served _ _ (gain_ended _ _ _ _ (gain_session _ k).only)
+  gain_call (Gate.on_lists k) = gain_served _ _ (gain_listing k)
+  gain_call (Gate.on_save k) = gain_served _ _ (gain_stays _ _)
+  gain_call (Gate.on_queue (Gate.send_can_frame list frame class owner)) = gain_served _ _ (gain_stays _ _)
+  gain_call (Gate.on_queue (Gate.serve_can_frames list turns clock)) =
+      cases (λ (x : Says). Gains (Served (Gate.on_queue (Gate.serve_can_frames list turns clock))) (cars_of g.phones.store) x.store) (in_range (view g)) _ _ (λ r. gain_stays _ _) (λ r. gain_stays _ _)
+  gain_call (Gate.on_core k) = gain_served _ _ (gain_stays _ _)
   gain_call (Gate.ask q) = gain_stays _ _
 
   pub becomes_listed : (k : Call) (car phone : List ℕ) → NotListed g car phone → Listed (after g k) car phone → (in_range (view g) ≡ true) × Validates g car phone k

@@ -126,12 +126,12 @@ module _ (g : Gate) (h : Fits g) where
 
   pub fit_listing : (k : ListCall) → Holds (Leaves g of_lists) (listing (lists_in g.phones) g.core.settings.bonded k)
   unfolding listing left view Pairing.pair Pairing.unpairing Pairing.unpair Pairing.clear Store.forget Store.prune Store.restore lists_stay
-  fit_listing (Gate.addPairedPhone id) = if_checked (lists_stay _) _ _ (λ a. search) (λ u. let s = short_id_lem id _ _ u in search (if_cond, range_append))
-  fit_listing (Gate.removePairedPhone id) = search (storing_fits, if_cond, range_first, forgetting_fits)
-  fit_listing Gate.clearPairedPhones = let k = emptied in search empty_list
-  fit_listing (Gate.forgetPhoneValidation id) = search (storing_fits, forgetting_fits)
-  fit_listing Gate.prunePhoneValidations = search (storing_fits, pruning_fits)
-  fit_listing (Gate.restorePhoneValidations bytes) = restoring_fits bytes (decoded bytes) refl
+  fit_listing (Gate.add_paired_phone id) = if_checked (lists_stay _) _ _ (λ a. search) (λ u. let s = short_id_lem id _ _ u in search (if_cond, range_append))
+  fit_listing (Gate.remove_paired_phone id) = search (storing_fits, if_cond, range_first, forgetting_fits)
+  fit_listing Gate.clear_paired_phones = let k = emptied in search empty_list
+  fit_listing (Gate.forget_phone_validation id) = search (storing_fits, forgetting_fits)
+  fit_listing Gate.prune_phone_validations = search (storing_fits, pruning_fits)
+  fit_listing (Gate.restore_phone_validations bytes) = restoring_fits bytes (decoded bytes) refl
 
 -- ---- the save
 
@@ -161,8 +161,8 @@ module _ (g : Gate) (h : Fits g) where
 
   pub fit_saving : (k : SaveCall) → Holds (Leaves g of_save) (saving (cars_of g.phones.store) g.save k)
   unfolding saving left view taking unmet opening
-  fit_saving Gate.openPhoneValidationsSave = let k = opening_fits in search
-  fit_saving (Gate.takePhoneValidationsSave out) =
+  fit_saving Gate.open_phone_validations_save = let k = opening_fits in search
+  fit_saving (Gate.take_phone_validations_save out) =
       if_checked (refused g.save) _ _ (λ a. search)
       (λ u. let k = taking_fits out (not-false _ (not-true _ ((and-eq-true_iff _ _).0 u).0)) in search)
 
@@ -257,9 +257,9 @@ module _ (g : Gate) (h : Fits g) where
 
   pub fit_ended : (full : Bool) (k : SessionCall) → Holds (Leaves g of_session) (ended g.core full k)
   unfolding ended Validation.cancel leave
-  fit_ended full (Gate.cancelValidation phone clock) = search (unvalidated, if_checked, fit_end)
-  fit_ended full (Gate.completeValidationAction number clock) = fit_complete number clock full
-  fit_ended full (Gate.tickValidation clock) = search (unvalidated, fit_tick)
+  fit_ended full (Gate.cancel_validation phone clock) = search (unvalidated, if_checked, fit_end)
+  fit_ended full (Gate.complete_validation_action number clock) = fit_complete number clock full
+  fit_ended full (Gate.tick_validation clock) = search (unvalidated, fit_tick)
 
 -- ---- the calls on the core
 
@@ -299,23 +299,23 @@ module _ (v : View) (h : Fitting v.core) where
 
   pub fit_said : (k : CoreCall) → Sized (on_core k) → Holds SaidFits (said v.core v.lists k)
   unfolding said some_of leave quiet reply notified window_fits Pairing.set_peer Access.approve Access.revoke_approval Access.restore_approval DevLock.set_dev_unlocked DevLock.declare_production CarIdentity.confirm_platform CarIdentity.revoke_platform CarIdentity.confirm_fingerprint CarIdentity.note_platform Can.note_logging Can.note_fd_bus Methods.note_available Methods.note_continue Changes.policy_changed Changes.relocked Probe.close_probe Probe.window_changed Probe.heard heard_at Can.set_read_only
-  fit_said (Gate.setBlePeer id) z = if_checked (leave v.core) _ _ (λ a. search) (λ u. let s = short_id_lem id _ _ u in search (if_cond, id_range))
-  fit_said Gate.approveCanReadWrite z = untouched z refl refl (search if_checked)
-  fit_said Gate.revokeCanReadWriteApproval z = untouched z refl refl (search)
-  fit_said (Gate.restoreCanReadWriteApproval approval) z = untouched z refl refl (search)
-  fit_said (Gate.setCanDevWriteUnlocked unlocked) z = untouched z refl refl (search if_checked)
-  fit_said Gate.declareProductionBuild z = untouched z refl refl (search)
-  fit_said Gate.confirmCarIdentity z = untouched z refl refl (search)
-  fit_said Gate.revokeCarIdentity z = search
-  fit_said (Gate.confirmCarFingerprint fingerprint) z = untouched z refl refl (search (if_checked, digest_long))
-  fit_said (Gate.setCanReadOnly true) z = search
-  fit_said (Gate.setCanReadOnly false) z = search
-  fit_said (Gate.openIdentityProbe bus frames count clock) z = fit_open v.core h bus frames count clock (z.probe bus frames count clock refl)
-  fit_said Gate.closeIdentityProbe z = search if_cond
-  fit_said (Gate.allowCanTx bus frame class owner clock) z = fit_allow v.core h bus frame class _ clock
-  fit_said (Gate.heardCanFrame bus clock) z = search if_cond
-  fit_said (Gate.notePlatformId number) z = untouched z refl refl (search)
-  fit_said (Gate.noteCanLogging on) z = untouched z refl refl (search)
-  fit_said (Gate.noteCanFdBus bus on) z = untouched z refl refl (search if_cond)
-  fit_said (Gate.noteMethodAvailable place on) z = untouched z refl refl (search if_cond)
-  fit_said (Gate.noteMethodCanContinue place on) z = untouched z refl refl (search if_cond)
+  fit_said (Gate.set_ble_peer id) z = if_checked (leave v.core) _ _ (λ a. search) (λ u. let s = short_id_lem id _ _ u in search (if_cond, id_range))
+  fit_said Gate.approve_can_read_write z = untouched z refl refl (search if_checked)
+  fit_said Gate.revoke_can_read_write_approval z = untouched z refl refl (search)
+  fit_said (Gate.restore_can_read_write_approval approval) z = untouched z refl refl (search)
+  fit_said (Gate.set_can_dev_write_unlocked unlocked) z = untouched z refl refl (search if_checked)
+  fit_said Gate.declare_production_build z = untouched z refl refl (search)
+  fit_said Gate.confirm_car_identity z = untouched z refl refl (search)
+  fit_said Gate.revoke_car_identity z = search
+  fit_said (Gate.confirm_car_fingerprint fingerprint) z = untouched z refl refl (search (if_checked, digest_long))
+  fit_said (Gate.set_can_read_only true) z = search
+  fit_said (Gate.set_can_read_only false) z = search
+  fit_said (Gate.open_identity_probe bus frames count clock) z = fit_open v.core h bus frames count clock (z.probe bus frames count clock refl)
+  fit_said Gate.close_identity_probe z = search if_cond
+  fit_said (Gate.allow_can_tx bus frame class owner clock) z = fit_allow v.core h bus frame class _ clock
+  fit_said (Gate.heard_can_frame bus clock) z = search if_cond
+  fit_said (Gate.note_platform_id number) z = untouched z refl refl (search)
+  fit_said (Gate.note_can_logging on) z = untouched z refl refl (search)
+  fit_said (Gate.note_can_fd_bus bus on) z = untouched z refl refl (search if_cond)
+  fit_said (Gate.note_method_available place on) z = untouched z refl refl (search if_cond)
+  fit_said (Gate.note_method_can_continue place on) z = untouched z refl refl (search if_cond)

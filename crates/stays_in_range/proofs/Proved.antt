@@ -108,15 +108,15 @@ module _ (g : Gate) (r : InRange g) (h : Fits g) where
 
   stays_in : (k : Call) → Sized k → Fits (after g k)
   unfolding step gives says queueing view left
-  stays_in (Gate.newGateCall settings methods count) z = new_fits g settings methods count (z.new settings methods count refl)
-  stays_in (Gate.startValidation phone method clock random) z = core_in _ _ (fit_start g.core h.core phone method clock _ _)
-  stays_in (Gate.submitValidationCode phone typed clock) z = served_in _ (fit_submit g h phone clock _ _ _).holds
-  stays_in (Gate.onSession k) z = served_in _ (fit_ended g h _ k).holds
-  stays_in (Gate.onLists k) z = served_in _ (fit_listing g h k).holds
-  stays_in (Gate.onSave k) z = served_in _ (fit_saving g h k).holds
-  stays_in (Gate.onQueue (Gate.sendCanFrame list frame class owner)) z = served_in _ (fit_sending g h list frame class owner).holds
-  stays_in (Gate.onQueue (Gate.serveCanFrames list turns clock)) z = rw r (fit_serving g h list turns clock)
-  stays_in (Gate.onCore k) z = core_in _ _ (fit_said (view g) h.core k z)
+  stays_in (Gate.new_gate_call settings methods count) z = new_fits g settings methods count (z.new settings methods count refl)
+  stays_in (Gate.start_validation phone method clock random) z = core_in _ _ (fit_start g.core h.core phone method clock _ _)
+  stays_in (Gate.submit_validation_code phone typed clock) z = served_in _ (fit_submit g h phone clock _ _ _).holds
+  stays_in (Gate.on_session k) z = served_in _ (fit_ended g h _ k).holds
+  stays_in (Gate.on_lists k) z = served_in _ (fit_listing g h k).holds
+  stays_in (Gate.on_save k) z = served_in _ (fit_saving g h k).holds
+  stays_in (Gate.on_queue (Gate.send_can_frame list frame class owner)) z = served_in _ (fit_sending g h list frame class owner).holds
+  stays_in (Gate.on_queue (Gate.serve_can_frames list turns clock)) z = rw r (fit_serving g h list turns clock)
+  stays_in (Gate.on_core k) z = core_in _ _ (fit_said (view g) h.core k z)
   stays_in (Gate.ask q) z = h
 
 pub stays_in_range : StaysInRange

@@ -158,7 +158,7 @@ other = 0xC3 ∷ []
 
 abbrev pub two_phones : List Call
 two_phones =
-    start 1_000 random_1234 ∷ submit 2_000 seven ∷ on_session (Gate.cancelValidation phone 3_000) ∷ start_validation other method 4_000 random_1234
+    start 1_000 random_1234 ∷ submit 2_000 seven ∷ on_session (Gate.cancel_validation phone 3_000) ∷ start_validation other method 4_000 random_1234
     ∷ submit_validation_code other seven 5_000 ∷ submit_validation_code other seven 6_000 ∷ start 36_000 random_1234 ∷ []
 
 -- up to the refill by Failed, and from there on

@@ -110,38 +110,38 @@ new_none settings methods count = either (λ (m : Made). code_runs m.core ≡ fa
 -- a start judges no code
 start_last : (g : Gate) (c : Call) → begins c (step g c).answer ≡ true → judged_wrong c (step g c).answer ≤ left_by tries_left g
 unfolding begins judged_wrong
-start_last g (Gate.newGateCall settings methods count) e = zero-le
-start_last g (Gate.startValidation phone method clock random) e = zero-le
-start_last g (Gate.submitValidationCode phone typed clock) e = absurd (false≢true e)
-start_last g (Gate.onSession k) e = zero-le
-start_last g (Gate.onLists k) e = zero-le
-start_last g (Gate.onSave k) e = zero-le
-start_last g (Gate.onQueue k) e = zero-le
-start_last g (Gate.onCore k) e = zero-le
+start_last g (Gate.new_gate_call settings methods count) e = zero-le
+start_last g (Gate.start_validation phone method clock random) e = zero-le
+start_last g (Gate.submit_validation_code phone typed clock) e = absurd (false≢true e)
+start_last g (Gate.on_session k) e = zero-le
+start_last g (Gate.on_lists k) e = zero-le
+start_last g (Gate.on_save k) e = zero-le
+start_last g (Gate.on_queue k) e = zero-le
+start_last g (Gate.on_core k) e = zero-le
 start_last g (Gate.ask q) e = zero-le
 
 -- A call that begins no session: what it judges wrong, it takes from what the session has left.
 session_takes : (g : Gate) (c : Call) → begins c (step g c).answer ≡ false → judged_wrong c (step g c).answer + left_by tries_left (after g c) ≤ left_by tries_left g
 unfolding step gives says queueing saying view Gate.left begins judged_wrong
-session_takes g (Gate.newGateCall settings methods count) e =
+session_takes g (Gate.new_gate_call settings methods count) e =
     let c = (made_core settings methods count).core in
     let t : tries_left c ≡ 0 = rw (new_none settings methods count) in
-    omega (arith, t, at_most (in_range (view (after g (Gate.newGateCall settings methods count)))) (tries_left c))
-session_takes g (Gate.startValidation phone method clock random) e =
+    omega (arith, t, at_most (in_range (view (after g (Gate.new_gate_call settings methods count)))) (tries_left c))
+session_takes g (Gate.start_validation phone method clock random) e =
     let d = drawn random g.core.settings.digits in
     at_gate tries_left g _ (λ n. 0) refl
     (λ f. (started g.core phone method clock (is_lent random) d.ok).idle (sym (ap (λ (s : Says). eqb (number_of (laid_reply s.answer)) 0) (served_in (view g) _ f)) ∙ e))
-session_takes g (Gate.submitValidationCode phone typed clock) e =
+session_takes g (Gate.submit_validation_code phone typed clock) e =
     at_gate tries_left g _ (λ n. cond (eqb n 10) 1 0) refl
     (λ f. (submitted_as g.core (tries_fit_lem (view g) f).0 clock phone (is_text typed) (is_right g typed) (full_for (view g))).paid)
-session_takes g (Gate.onSession k) e = at_gate tries_left g _ (λ n. 0) refl (λ f. (turn_session g.core _ k).paid)
-session_takes g (Gate.onLists k) e = at_gate tries_left g _ (λ n. 0) refl (λ f. none_more _ _ (le_refl _))
-session_takes g (Gate.onSave k) e = at_gate tries_left g _ (λ n. 0) refl (λ f. none_more _ _ (le_refl _))
-session_takes g (Gate.onQueue (Gate.sendCanFrame list frame class owner)) e = at_gate tries_left g _ (λ n. 0) refl (λ f. none_more _ _ (le_refl _))
-session_takes g (Gate.onQueue (Gate.serveCanFrames list turns clock)) e =
+session_takes g (Gate.on_session k) e = at_gate tries_left g _ (λ n. 0) refl (λ f. (turn_session g.core _ k).paid)
+session_takes g (Gate.on_lists k) e = at_gate tries_left g _ (λ n. 0) refl (λ f. none_more _ _ (le_refl _))
+session_takes g (Gate.on_save k) e = at_gate tries_left g _ (λ n. 0) refl (λ f. none_more _ _ (le_refl _))
+session_takes g (Gate.on_queue (Gate.send_can_frame list frame class owner)) e = at_gate tries_left g _ (λ n. 0) refl (λ f. none_more _ _ (le_refl _))
+session_takes g (Gate.on_queue (Gate.serve_can_frames list turns clock)) e =
     let t = turn_serving g.core (view g).lists g.queue list turns clock in
     left_gate tries_left g _ _ (rw (t.runs, t.validation) (le_refl _))
-session_takes g (Gate.onCore k) e = at_gate tries_left g _ (λ n. 0) refl (λ f. (turn_core g.core _ k).paid)
+session_takes g (Gate.on_core k) e = at_gate tries_left g _ (λ n. 0) refl (λ f. (turn_core g.core _ k).paid)
 session_takes g (Gate.ask q) e = none_more _ _ (le_refl _)
 
 pub limited : (g : Gate) (cs : List Call) → Every Within (sessions g.core.settings.tries 0 g cs)
@@ -171,36 +171,36 @@ one_judged g s = go (in_range (view g)) refl
 
 refill_last : (g : Gate) (c : Call) → refills c (step g c).answer ≡ true → judged_wrong c (step g c).answer ≤ left_by gate_tries g
 unfolding step gives says judged_wrong
-refill_last g (Gate.newGateCall settings methods count) e = zero-le
-refill_last g (Gate.startValidation phone method clock random) e = zero-le
-refill_last g (Gate.submitValidationCode phone typed clock) e = one_judged g _
-refill_last g (Gate.onSession k) e = zero-le
-refill_last g (Gate.onLists k) e = zero-le
-refill_last g (Gate.onSave k) e = zero-le
-refill_last g (Gate.onQueue k) e = zero-le
-refill_last g (Gate.onCore k) e = zero-le
+refill_last g (Gate.new_gate_call settings methods count) e = zero-le
+refill_last g (Gate.start_validation phone method clock random) e = zero-le
+refill_last g (Gate.submit_validation_code phone typed clock) e = one_judged g _
+refill_last g (Gate.on_session k) e = zero-le
+refill_last g (Gate.on_lists k) e = zero-le
+refill_last g (Gate.on_save k) e = zero-le
+refill_last g (Gate.on_queue k) e = zero-le
+refill_last g (Gate.on_core k) e = zero-le
 refill_last g (Gate.ask q) e = zero-le
 
 -- A call that does not refill: what it judges wrong, it takes from the gate's tries.
 gate_takes : (g : Gate) (c : Call) → refills c (step g c).answer ≡ false → judged_wrong c (step g c).answer + left_by gate_tries (after g c) ≤ left_by gate_tries g
 unfolding step gives says queueing saying view Gate.left refills judged_wrong
-gate_takes g (Gate.newGateCall settings methods count) e = absurd (false≢true (sym e))
-gate_takes g (Gate.startValidation phone method clock random) e =
+gate_takes g (Gate.new_gate_call settings methods count) e = absurd (false≢true (sym e))
+gate_takes g (Gate.start_validation phone method clock random) e =
     let d = drawn random g.core.settings.digits in
     at_gate gate_tries g _ (λ n. 0) refl (λ f. (started g.core phone method clock (is_lent random) d.ok).kept)
-gate_takes g (Gate.submitValidationCode phone typed clock) e =
+gate_takes g (Gate.submit_validation_code phone typed clock) e =
     at_gate gate_tries g _ (λ n. cond (eqb n 10) 1 0) refl
     (λ f. (submitted_as g.core (tries_fit_lem (view g) f).0 clock phone (is_text typed) (is_right g typed) (full_for (view g))).kept
     (sym (ap (λ (s : Says). submit_refills (number_of (laid_reply s.answer)) (numbered_reply (laid_reply s.answer)).values) (served_in (view g) _ f)) ∙ e))
-gate_takes g (Gate.onSession k) e =
+gate_takes g (Gate.on_session k) e =
     at_gate gate_tries g _ (λ n. 0) refl
     (λ f. (turn_session g.core _ k).kept (sym (ap (λ (s : Says). session_refills k (numbered_reply (laid_reply s.answer)).values) (served_in (view g) _ f)) ∙ e))
-gate_takes g (Gate.onLists k) e = at_gate gate_tries g _ (λ n. 0) refl (λ f. none_more _ _ (le_refl _))
-gate_takes g (Gate.onSave k) e = at_gate gate_tries g _ (λ n. 0) refl (λ f. none_more _ _ (le_refl _))
-gate_takes g (Gate.onQueue (Gate.sendCanFrame list frame class owner)) e = at_gate gate_tries g _ (λ n. 0) refl (λ f. none_more _ _ (le_refl _))
-gate_takes g (Gate.onQueue (Gate.serveCanFrames list turns clock)) e =
+gate_takes g (Gate.on_lists k) e = at_gate gate_tries g _ (λ n. 0) refl (λ f. none_more _ _ (le_refl _))
+gate_takes g (Gate.on_save k) e = at_gate gate_tries g _ (λ n. 0) refl (λ f. none_more _ _ (le_refl _))
+gate_takes g (Gate.on_queue (Gate.send_can_frame list frame class owner)) e = at_gate gate_tries g _ (λ n. 0) refl (λ f. none_more _ _ (le_refl _))
+gate_takes g (Gate.on_queue (Gate.serve_can_frames list turns clock)) e =
     left_gate gate_tries g _ _ (rw (gate_tries, (turn_serving g.core (view g).lists g.queue list turns clock).validation) (le_refl _))
-gate_takes g (Gate.onCore k) e = at_gate gate_tries g _ (λ n. 0) refl (λ f. (turn_core g.core _ k).kept refl)
+gate_takes g (Gate.on_core k) e = at_gate gate_tries g _ (λ n. 0) refl (λ f. (turn_core g.core _ k).kept refl)
 gate_takes g (Gate.ask q) e = none_more _ _ (le_refl _)
 
 pub refilled : Refilled

@@ -84,7 +84,7 @@ frame = record { bus = 0; id = Standard 0x123; «data» = replicate 8 0; dlc = 8
 
 -- the host confirms the bike with this fingerprint, and its owner approves it
 abbrev on_bike : List ℕ → List Call
-on_bike fingerprint = on_core (Gate.confirmCarFingerprint fingerprint) ∷ on_core Gate.approveCanReadWrite ∷ []
+on_bike fingerprint = on_core (Gate.confirm_car_fingerprint fingerprint) ∷ on_core Gate.approve_can_read_write ∷ []
 
 -- two bikes
 abbrev bike : List Call
@@ -96,12 +96,12 @@ other_bike = on_bike (4 ∷ [])
 -- a production build on a bike, its buses read-write, with both phones paired
 abbrev ready : List Call
 ready =
-    on_core Gate.declareProductionBuild ∷
-    on_core Gate.confirmCarIdentity ∷
+    on_core Gate.declare_production_build ∷
+    on_core Gate.confirm_car_identity ∷
     bike ++
-    (on_core (Gate.setCanReadOnly false) ∷
-    on_lists (Gate.addPairedPhone phone) ∷
-    on_lists (Gate.addPairedPhone other) ∷ [])
+    (on_core (Gate.set_can_read_only false) ∷
+    on_lists (Gate.add_paired_phone phone) ∷
+    on_lists (Gate.add_paired_phone other) ∷ [])
 
 -- the phone starts a session whose code is 1234, and types it in groups, 12 34
 abbrev code_typed : List Call
@@ -109,11 +109,11 @@ code_typed = start 1_000 ∷ submit_validation_code phone (49 ∷ 50 ∷ 32 ∷ 
 
 -- a phone starts a session, the gate's first or second, and the action is done in the car
 abbrev action_done : List ℕ → ℕ → List Call
-action_done owner number = start_validation owner act 2_100 [] ∷ on_session (Gate.completeValidationAction number 2_200) ∷ []
+action_done owner number = start_validation owner act 2_100 [] ∷ on_session (Gate.complete_validation_action number 2_200) ∷ []
 
 -- the host restores a record
 abbrev restored : List ℕ → List Call
-restored bytes = on_lists (Gate.restorePhoneValidations bytes) ∷ []
+restored bytes = on_lists (Gate.restore_phone_validations bytes) ∷ []
 
 -- this bike, with the phone, as a record of either version
 abbrev stored : CarIds
@@ -126,11 +126,11 @@ abbrev version_one : List ℕ
 version_one = 1 ∷ car_part stored
 
 abbrev forgotten : List Call
-forgotten = on_lists (Gate.forgetPhoneValidation phone) ∷ []
+forgotten = on_lists (Gate.forget_phone_validation phone) ∷ []
 
 -- the phone's command waits meanwhile
 abbrev waits : List Waiting → Call
-waits list = on_queue (Gate.sendCanFrame list frame Command phone)
+waits list = on_queue (Gate.send_can_frame list frame Command phone)
 
 -- the phone is validated, then the other phone on the other bike, and the bike is back
 abbrev there_and_back : List Call
@@ -139,14 +139,14 @@ there_and_back = ready ++ code_typed ++ other_bike ++ action_done other 2 ++ bik
 -- ---- what a command gets after these calls
 
 abbrev told : List Call → List ℕ → PackedReply
-told ks owner = (step (after_all first ks) (on_core (Gate.allowCanTx 0 frame Command owner 3_000))).answer
+told ks owner = (step (after_all first ks) (on_core (Gate.allow_can_tx 0 frame Command owner 3_000))).answer
 
 abbrev read_only : List Call → PackedReply
 read_only ks = (step (after_all first ks) (ask (Query.is_can_bus_read_only 0))).answer
 
 -- it is sent before these calls and served after them: its entry
 abbrev served : List Call → List Decided
-served ks = entries (after_all first (ready ++ (waits (replicate 16 blank) ∷ ks))) (on_queue (Gate.serveCanFrames (set (replicate 16 blank) 0 (record { frame = frame; class = Command; owner = id_of phone })) 1 3_000))
+served ks = entries (after_all first (ready ++ (waits (replicate 16 blank) ∷ ks))) (on_queue (Gate.serve_can_frames (set (replicate 16 blank) 0 (record { frame = frame; class = Command; owner = id_of phone })) 1 3_000))
 
 abbrev entry : Bool → List Decided
 entry allowed = record { frame = frame; allowed = allowed } ∷ []
