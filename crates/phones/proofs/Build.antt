@@ -1,5 +1,5 @@
 -- Ids laid down one after the other.
-use mathlib.Core.Path.{◌≡◌, refl, sym, ◌∙◌}
+use mathlib.Core.Path.{◌≡◌, refl, sym, ap, ◌∙◌}
 use mathlib.Core.List.{List, [], ◌∷◌, ◌++◌, map, map-append}
 use Prim.Native.Nat.{ℕ, ◌+◌, ◌<◌, ◌≤◌, min}
 use native.Mathlib.Omega.{arith}
@@ -67,6 +67,10 @@ built_copy ns b m k far e f =
       to = rw e;
       long = rw all (put_length (replicate 1024 0) 0 (joined (ids_in ns b)) (omega (arith, length-replicate {A = ℕ} 1024 0)) ∙ length-replicate {A = ℕ} 1024 0);
     }
+
+-- ids end within their array
+pub measured_end : (ns b : List ℕ) (m : Measured) → length b ≡ 1024 → m ≡ measured_of (ids_in ns b) → m.end ≤ 1024
+measured_end ns b m far e = let at = ap (λ (x : Measured). x.end) e in let fits = ids_end ns b in omega arith
 
 -- ---- an id put last: m is what was measured, k the number of ids, n the length of the id
 

@@ -1,13 +1,13 @@
 use mathlib.Core.Path.{◌≡◌, refl, sym, ap, ◌∙◌}
 use mathlib.Core.Bool.{Bool}
 use mathlib.Core.List.{List, []}
-use Prim.Native.Nat.{ℕ, ◌-◌}
+use Prim.Native.Nat.{ℕ}
 use native.Mathlib.Omega.{arith}
 use borrow.Author.Rules.{rules}
-use lib.ListN.{length, take, drop}
+use lib.ListN.{length}
 use Rattle.phones.specs.Ids.{contains, any_in}
-use Rattle.phones.specs.Phones.{ids_in, phones_of}
-use Rattle.phones.proofs.Walk.{Walk, walk_none, walk_here, walk_on}
+use Rattle.phones.specs.Phones.{phones_of}
+use Rattle.phones.proofs.Walk.{walk_none, walk_here, walk_on}
 use Rattle.phones.proofs.Search.{some_again, some_found, some_end}
 use Rattle.phones.proofs.any_in.Goals as goal
 

@@ -1,15 +1,10 @@
 -- The invariant: what is looked for is in the list if it is there from i on.
-use mathlib.Core.Path.{◌≡◌, refl, sym, ap, ◌∙◌}
-use mathlib.Core.Bool.{Bool}
-use mathlib.Core.List.{List, []}
-use Prim.Native.Nat.{ℕ, ◌-◌}
-use native.Mathlib.Omega.{arith}
-use borrow.Author.Rules.{rules}
-use lib.ListN.{length, take, drop}
-use Rattle.phones.specs.Ids.{contains, any_in}
-use Rattle.phones.specs.Phones.{ids_in, phones_of}
-use Rattle.phones.proofs.Walk.{Walk, walk_none, walk_here, walk_on}
-use Rattle.phones.proofs.Search.{some_again, some_found, some_end}
+use mathlib.Core.Path.{◌≡◌}
+use Prim.Native.Nat.{◌-◌}
+use lib.ListN.{take, drop}
+use Rattle.phones.specs.Ids.{any_in}
+use Rattle.phones.specs.Phones.{ids_in}
+use Rattle.phones.proofs.Walk.{Walk}
 use Rattle.phones.proofs.any_in.Given as goal
 
 abbrev pub invariant-loop-i : goal.invariant-loop-i

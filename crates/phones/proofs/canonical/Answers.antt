@@ -1,36 +1,19 @@
 -- The bytes of all ids are copied over zeros at once.
--- the ids end within the array
-use mathlib.Core.Path.{◌≡◌, sym, ap, ◌∙◌}
-use Prim.Native.Nat.{◌≤◌}
+use mathlib.Core.Path.{◌≡◌, sym, ◌∙◌}
 use native.Mathlib.Omega.{arith}
 use borrow.Author.Rules.{rules}
 use lib.ListN.{length, take, length-take}
-use Rattle.phones.specs.declared.Measured.{Measured}
 use Rattle.phones.specs.Phones.{phones_of}
 use Rattle.phones.proofs.Laws.{phones_length}
-use Rattle.phones.proofs.Walk.{ids_end}
-use Rattle.phones.proofs.Build.{built_copy, built_list}
+use Rattle.phones.proofs.Build.{measured_end, built_copy, built_list}
 use Rattle.phones.proofs.canonical.Goals as goal
 
-within : (c : tie.After-measure) → c.measure.result.end ≤ 1024
-within c =
-    let l = c.before.before.before.before.before.args.l in
-    let far : length l.bytes ≡ 1024 = search rules in
-    let e = ap (λ (m : Measured). m.end) c.measure.ensures in
-    let fits = ids_end (take l.count l.lens) l.bytes in
-    omega arith
-
-pub slice_bounds-put-end : goal.slice_bounds-put-end
-unfolding phones_of
-slice_bounds-put-end c = search rules
-
 pub slice_bounds-put-end-2 : goal.slice_bounds-put-end-2
-unfolding phones_of
-slice_bounds-put-end-2 c = rw length-take (let h = within c in omega arith)
-
-pub put-requires : goal.put-requires
-unfolding phones_of
-put-requires c = rw length-take (let h = within c in omega arith)
+slice_bounds-put-end-2 c =
+    let l = c.args.l in
+    let far : length l.bytes ≡ 1024 = search rules in
+    let h = measured_end (take l.count l.lens) l.bytes c.measure-m.result far c.measure-m.ensures in
+    rw length-take (omega arith)
 
 pub returns : goal.returns
 unfolding phones_of

@@ -1,13 +1,11 @@
 use mathlib.Core.Path.{◌≡◌, sym, ap, ◌∙◌}
 use mathlib.Core.List.{List}
-use Prim.Native.Nat.{ℕ, ◌+◌, ◌-◌}
+use Prim.Native.Nat.{ℕ}
 use native.Mathlib.Omega.{arith}
 use borrow.Author.Rules.{rules}
-use lib.ListN.{length, take, drop}
+use lib.ListN.{length}
 use Rattle.arrays.specs.Arrays.{same_bytes}
-use Rattle.phones.specs.Phones.{ids_in}
-use Rattle.phones.specs.Steps.{first_at}
-use Rattle.phones.proofs.Walk.{Walk, walk_none, walk_here, walk_on}
+use Rattle.phones.proofs.Walk.{walk_none, walk_here, walk_on}
 use Rattle.phones.proofs.Search.{first_again, first_found, first_end}
 use Rattle.phones.proofs.first_at.Goals as goal
 

@@ -1,15 +1,10 @@
 -- The invariant: none of the first i ids is the string.
-use mathlib.Core.Path.{◌≡◌, sym, ap, ◌∙◌}
-use mathlib.Core.List.{List}
-use Prim.Native.Nat.{ℕ, ◌+◌, ◌-◌}
-use native.Mathlib.Omega.{arith}
-use borrow.Author.Rules.{rules}
-use lib.ListN.{length, take, drop}
-use Rattle.arrays.specs.Arrays.{same_bytes}
+use mathlib.Core.Path.{◌≡◌}
+use Prim.Native.Nat.{◌+◌, ◌-◌}
+use lib.ListN.{take, drop}
 use Rattle.phones.specs.Phones.{ids_in}
 use Rattle.phones.specs.Steps.{first_at}
-use Rattle.phones.proofs.Walk.{Walk, walk_none, walk_here, walk_on}
-use Rattle.phones.proofs.Search.{first_again, first_found, first_end}
+use Rattle.phones.proofs.Walk.{Walk}
 use Rattle.phones.proofs.first_at.Given as goal
 
 abbrev pub invariant-loop-i : goal.invariant-loop-i

@@ -2,12 +2,10 @@ use borrow.Author.Rules.{rules}
 use borrow.Author.Tests.{lt-ltb, le-ltb}
 use mathlib.Core.Path.{◌≡◌, refl}
 use mathlib.Core.Bool.{true, false}
-use Prim.Native.Nat.{◌≤◌, ◌-◌}
 use native.Mathlib.Omega.{arith}
 use lib.Dec.{ltb}
-use lib.ListN.{length, take, drop, get_or, length-take}
+use lib.ListN.{length, take, get_or, length-take}
 use lib.Seq.{get_or-take}
-use Rattle.phones.specs.Ids.{some_of}
 use Rattle.phones.specs.Phones.{list_in_range}
 use Rattle.phones.proofs.Search.{some_again, some_found, some_end}
 use Rattle.phones.proofs.list_in_range.Goals as goal

@@ -1,5 +1,4 @@
 -- A string of at most 32 bytes is written over zeros.
-use borrow.Author.Rules.{rules}
 use mathlib.Core.Path.{refl}
 use Prim.Native.Nat.{◌≤◌, ◌<◌}
 use native.Mathlib.Omega.{arith}

@@ -1,6 +1,5 @@
 use mathlib.Core.Path.{◌≡◌, refl, sym}
-use mathlib.Core.List.{[], map}
-use Prim.Native.Nat.{◌-◌}
+use mathlib.Core.List.{[]}
 use native.Mathlib.Numerals.{add-one}
 use native.Mathlib.Omega.{arith}
 use borrow.Author.Rules.{rules}
@@ -8,7 +7,7 @@ use lib.ListN.{length, take, get_or, length-take}
 use lib.Seq.{take-suc, take_all}
 use Rattle.arrays.specs.Arrays.{padded}
 use Rattle.phones.specs.Phones.{ids_in}
-use Rattle.phones.proofs.Walk.{Walk, walk_none, walk_length, walk_on}
+use Rattle.phones.proofs.Walk.{walk_none, walk_length, walk_on}
 use Rattle.phones.proofs.Build.{lens_more}
 use Rattle.phones.proofs.measure.Goals as goal
 

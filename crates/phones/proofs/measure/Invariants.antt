@@ -1,16 +1,11 @@
 -- The invariant: the lengths of the first i ids are there.
-use mathlib.Core.Path.{◌≡◌, refl, sym}
-use mathlib.Core.List.{[], map}
+use mathlib.Core.Path.{◌≡◌}
+use mathlib.Core.List.{map}
 use Prim.Native.Nat.{◌-◌}
-use native.Mathlib.Numerals.{add-one}
-use native.Mathlib.Omega.{arith}
-use borrow.Author.Rules.{rules}
-use lib.ListN.{length, take, get_or, length-take}
-use lib.Seq.{take-suc, take_all}
+use lib.ListN.{length, take}
 use Rattle.arrays.specs.Arrays.{padded}
 use Rattle.phones.specs.Phones.{ids_in}
-use Rattle.phones.proofs.Walk.{Walk, walk_none, walk_length, walk_on}
-use Rattle.phones.proofs.Build.{lens_more}
+use Rattle.phones.proofs.Walk.{Walk}
 use Rattle.phones.proofs.measure.Given as goal
 
 abbrev pub invariant-loop-i : goal.invariant-loop-i
