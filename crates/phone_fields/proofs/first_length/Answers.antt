@@ -1,7 +1,6 @@
 -- The length byte is read where there is one; the phone is whole where as many bytes follow.
 use native.Mathlib.Omega.{arith}
 use Rattle.phone_fields.proofs.Reading.{first_none, first_short, first_whole}
-use borrow.Author.Rules.{rules}
 use Rattle.phone_fields.proofs.first_length.Goals as goal
 
 pub returns-then-rest-eq0 : goal.returns-then-rest-eq0

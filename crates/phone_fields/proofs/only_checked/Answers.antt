@@ -1,11 +1,7 @@
-use borrow.Author.Rules.{rules}
-use mathlib.Core.Path.{◌≡◌, refl, sym, ◌∙◌}
+use mathlib.Core.Path.{refl, sym, ◌∙◌}
 use native.Mathlib.Omega.{arith}
-use Rattle.phone_fields.specs.PhoneFields.{read_fields}
-use Rattle.phone_fields.specs.Steps.{only_checked}
 use Rattle.phone_fields.proofs.Reading.{first_fits, read_all, read_none, checked_step, tail_length}
-use lib.ListN.{length}
-use Prim.Native.Nat.{◌≤◌, ◌+◌}
+use Prim.Native.Nat.{◌+◌}
 use Rattle.phone_fields.proofs.only_checked.Goals as goal
 
 pub loop-left-init : goal.loop-left-init

@@ -1,12 +1,9 @@
 -- The loop's invariant: what is left to read from what remains gives the answer. The measure is what is left to read.
-use borrow.Author.Rules.{rules}
-use mathlib.Core.Path.{◌≡◌, refl, sym, ◌∙◌}
-use native.Mathlib.Omega.{arith}
+use mathlib.Core.Path.{◌≡◌}
 use Rattle.phone_fields.specs.PhoneFields.{read_fields}
 use Rattle.phone_fields.specs.Steps.{only_checked}
-use Rattle.phone_fields.proofs.Reading.{first_fits, read_all, read_none, checked_step, tail_length}
 use lib.ListN.{length}
-use Prim.Native.Nat.{◌≤◌, ◌+◌}
+use Prim.Native.Nat.{◌≤◌}
 use Rattle.phone_fields.proofs.only_checked.Given as goal
 
 abbrev pub invariant-loop-left : goal.invariant-loop-left

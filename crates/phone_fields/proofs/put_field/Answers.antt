@@ -1,7 +1,6 @@
 -- The length byte is stored, and the phone's bytes are written right after it.
 use mathlib.Core.Path.{◌∙◌}
 use native.Mathlib.Omega.{arith}
-use borrow.Author.Rules.{rules}
 use lib.ListN.{length-set}
 use Rattle.phone_fields.proofs.Writing.{put_field_lem, field_length}
 use Rattle.phone_fields.proofs.put_field.Goals as goal

@@ -1,11 +1,10 @@
 use mathlib.Core.Path.{◌≡◌, ap, ◌∙◌}
-use Prim.Native.Nat.{◌-◌}
 use native.Mathlib.Omega.{arith}
 use borrow.Author.Rules.{rules}
-use lib.ListN.{length, take}
-use Rattle.phones.specs.Phones.{ids_in, phones_of}
-use Rattle.phones.proofs.Walk.{Walk, walk_none, walk_here, walk_length, walk_on}
-use Rattle.phone_fields.proofs.Writing.{Written, written_none, next_room, written_more, written_all}
+use lib.ListN.{length}
+use Rattle.phones.specs.Phones.{phones_of}
+use Rattle.phones.proofs.Walk.{walk_none, walk_here, walk_length, walk_on}
+use Rattle.phone_fields.proofs.Writing.{written_none, next_room, written_more, written_all}
 use Rattle.phone_fields.proofs.put_fields.Goals as goal
 
 pub loop-i-init : goal.loop-i-init

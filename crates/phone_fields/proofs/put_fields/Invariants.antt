@@ -1,12 +1,9 @@
 -- The loop's invariant: the first i phones are written from `at` on (`Written`). The measure is what is left of the count.
-use mathlib.Core.Path.{◌≡◌, ap, ◌∙◌}
 use Prim.Native.Nat.{◌-◌}
-use native.Mathlib.Omega.{arith}
-use borrow.Author.Rules.{rules}
-use lib.ListN.{length, take}
-use Rattle.phones.specs.Phones.{ids_in, phones_of}
-use Rattle.phones.proofs.Walk.{Walk, walk_none, walk_here, walk_length, walk_on}
-use Rattle.phone_fields.proofs.Writing.{Written, written_none, next_room, written_more, written_all}
+use lib.ListN.{take}
+use Rattle.phones.specs.Phones.{ids_in}
+use Rattle.phones.proofs.Walk.{Walk}
+use Rattle.phone_fields.proofs.Writing.{Written}
 use Rattle.phone_fields.proofs.put_fields.Given as goal
 
 abbrev pub invariant-loop-i : goal.invariant-loop-i

@@ -1,15 +1,9 @@
 use mathlib.Core.Path.{sym, ◌∙◌}
-use mathlib.Core.List.{List, [], ◌∷◌, ◌++◌}
-use Prim.Native.Nat.{ℕ, ◌+◌, ◌≤◌}
+use mathlib.Core.List.{[], ◌∷◌, ◌++◌}
 use native.Mathlib.Omega.{arith}
-use borrow.Author.Rules.{rules}
-use lib.ListN.{length, take, drop, length-take, length-drop}
-use Rattle.phone_fields.proofs.Reading.{Kept, first_fits, read_none, too_many, kept_start, kept_none, kept_all, kept_long, kept_step}
+use lib.ListN.{take, drop, length-take, length-drop}
+use Rattle.phone_fields.proofs.Reading.{first_fits, read_none, too_many, kept_start, kept_none, kept_all, kept_long, kept_step}
 use Rattle.phone_fields.proofs.read_fields.Goals as goal
-
--- the phone and its length byte are within what remains
-fits : (c : tie.Else3 invariant-loop decreases-loop) → 1 + c.before.before.first-length.result ≤ length c.before.before.before.before.loop.rest.now
-fits c = first_fits _ _ c.before.before.first-length.ensures c.before.if2.false
 
 pub returns-then-count-gt32 : goal.returns-then-count-gt32
 returns-then-count-gt32 c = c.only_checked.ensures ∙ too_many _ c.args.count c.args.bytes.now c.if-count-gt32.true
@@ -35,13 +29,13 @@ returns-then-len-gt32 c =
     ∙ kept_long _ _ _ _ _ _ _ _ c.if-count-gt32.false at.invariant.1 first.result c.loop-left-test.true first.ensures c.if-len-eq0.false c.if-len-gt32.true
 
 pub overflow_add-end : goal.overflow_add-end
-overflow_add-end c = let fit = fits c in omega arith
+overflow_add-end c = let fit = first_fits _ _ c.first_length-len.ensures c.if-len-eq0.false in omega arith
 
 pub slice_bounds-put-end : goal.slice_bounds-put-end
 slice_bounds-put-end c = sym c.loop-left.invariant.1.built.long
 
 pub slice_bounds-put-end-in-loop-left : goal.slice_bounds-put-end-in-loop-left
-slice_bounds-put-end-in-loop-left c = fits c
+slice_bounds-put-end-in-loop-left c = first_fits _ _ c.first_length-len.ensures c.if-len-eq0.false
 
 pub put-requires : goal.put-requires
 put-requires c =
@@ -61,10 +55,10 @@ pub overflow_add-to : goal.overflow_add-to
 overflow_add-to c = let r = c.loop-left.invariant.1.room in omega arith
 
 pub slice_bounds-rest-count : goal.slice_bounds-rest-count
-slice_bounds-rest-count c = fits c
+slice_bounds-rest-count c = first_fits _ _ c.first_length-len.ensures c.if-len-eq0.false
 
 pub slice_bounds-rest-start : goal.slice_bounds-rest-start
-slice_bounds-rest-start c = fits c
+slice_bounds-rest-start c = first_fits _ _ c.first_length-len.ensures c.if-len-eq0.false
 
 pub loop-left-preserved : goal.loop-left-preserved
 loop-left-preserved c =
