@@ -1,8 +1,5 @@
-use mathlib.Core.Path.{◌≡◌, refl, sym, ◌∙◌}
-use Prim.Native.Nat.{◌≤◌, ◌-◌, ◌+◌}
+use mathlib.Core.Path.{refl}
 use native.Mathlib.Omega.{arith}
-use lib.ListN.{length, drop}
-use Rattle.word_table.specs.Words.{before}
 use Rattle.word_table.proofs.Laws.{before_here, before_more, before_end}
 use Rattle.word_table.proofs.end_of.Goals as goal
 

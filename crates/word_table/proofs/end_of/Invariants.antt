@@ -1,10 +1,8 @@
 -- The invariant: as many stand before the first b from `at` on, as were passed and stand before it from i on.
-use mathlib.Core.Path.{◌≡◌, refl, sym, ◌∙◌}
+use mathlib.Core.Path.{◌≡◌}
 use Prim.Native.Nat.{◌≤◌, ◌-◌, ◌+◌}
-use native.Mathlib.Omega.{arith}
 use lib.ListN.{length, drop}
 use Rattle.word_table.specs.Words.{before}
-use Rattle.word_table.proofs.Laws.{before_here, before_more, before_end}
 use Rattle.word_table.proofs.end_of.Given as goal
 
 abbrev pub invariant-loop-i : goal.invariant-loop-i

@@ -1,8 +1,5 @@
-use mathlib.Core.Path.{◌≡◌, refl, sym, ◌∙◌}
-use Prim.Native.Nat.{◌≤◌, ◌-◌, ◌+◌}
+use mathlib.Core.Path.{sym, ◌∙◌}
 use native.Mathlib.Omega.{arith}
-use lib.ListN.{length, drop}
-use Rattle.word_table.specs.Words.{lines_of, place_in}
 use Rattle.word_table.proofs.Laws.{end_inside, place_hit, place_miss, place_end}
 use Rattle.word_table.proofs.place_in.Goals as goal
 

@@ -1,10 +1,8 @@
 -- The invariant: the word's place is n more than its place among the lines from `at` on.
-use mathlib.Core.Path.{◌≡◌, refl, sym, ◌∙◌}
+use mathlib.Core.Path.{◌≡◌}
 use Prim.Native.Nat.{◌≤◌, ◌-◌, ◌+◌}
-use native.Mathlib.Omega.{arith}
 use lib.ListN.{length, drop}
 use Rattle.word_table.specs.Words.{lines_of, place_in}
-use Rattle.word_table.proofs.Laws.{end_inside, place_hit, place_miss, place_end}
 use Rattle.word_table.proofs.place_in.Given as goal
 
 abbrev pub invariant-loop-at : goal.invariant-loop-at

@@ -1,9 +1,4 @@
-use mathlib.Core.Path.{◌≡◌, refl, sym, ◌∙◌}
-use mathlib.Core.List.{[]}
-use Prim.Native.Nat.{◌≤◌, ◌-◌, ◌+◌}
 use native.Mathlib.Omega.{arith}
-use lib.ListN.{length, drop, get_or}
-use Rattle.word_table.specs.Words.{lines_of}
 use Rattle.word_table.proofs.Laws.{end_inside, row_here, row_on, lines_end}
 use Rattle.word_table.proofs.row_at.Goals as goal
 

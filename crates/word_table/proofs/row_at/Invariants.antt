@@ -1,11 +1,9 @@
 -- The invariant: the row at n is the row at k of the text from `at` on.
-use mathlib.Core.Path.{◌≡◌, refl, sym, ◌∙◌}
+use mathlib.Core.Path.{◌≡◌}
 use mathlib.Core.List.{[]}
-use Prim.Native.Nat.{◌≤◌, ◌-◌, ◌+◌}
-use native.Mathlib.Omega.{arith}
+use Prim.Native.Nat.{◌-◌}
 use lib.ListN.{length, drop, get_or}
 use Rattle.word_table.specs.Words.{lines_of}
-use Rattle.word_table.proofs.Laws.{end_inside, row_here, row_on, lines_end}
 use Rattle.word_table.proofs.row_at.Given as goal
 
 abbrev pub invariant-loop-at : goal.invariant-loop-at
