@@ -1,7 +1,7 @@
 use mathlib.Core.Path.{◌≡◌, ap, ◌∙◌}
 use mathlib.Core.Bool.{not}
 use mathlib.Core.List.{List}
-use Prim.Native.Nat.{ℕ, ◌-◌}
+use Prim.Native.Nat.{ℕ}
 use native.Mathlib.Omega.{arith}
 use borrow.Author.Rules.{rules}
 use lib.ListN.{length, take}
@@ -9,7 +9,7 @@ use lib.Seq.{take_all}
 use Rattle.arrays.specs.Arrays.{same_bytes}
 use Rattle.phones.specs.Phones.{ids_in}
 use Rattle.list_removals.specs.Marks.{marked}
-use Rattle.phones.proofs.Walk.{Walk, walk_none, walk_here, walk_on}
+use Rattle.phones.proofs.Walk.{walk_none, walk_here, walk_on}
 use Rattle.list_removals.proofs.Turns.{next_fits, index, closer, begins}
 use Rattle.list_removals.proofs.Marks.{marked_none, marked_more}
 use Rattle.list_removals.proofs.others.Goals as goal

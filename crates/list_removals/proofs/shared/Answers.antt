@@ -1,7 +1,7 @@
 use mathlib.Core.Path.{◌≡◌, ap, ◌∙◌}
 use mathlib.Core.Bool.{Bool}
 use mathlib.Core.List.{List}
-use Prim.Native.Nat.{ℕ, ◌-◌}
+use Prim.Native.Nat.{ℕ}
 use native.Mathlib.Omega.{arith}
 use borrow.Author.Rules.{rules}
 use lib.ListN.{length, take}
@@ -9,7 +9,7 @@ use lib.Seq.{take_all}
 use Rattle.phones.specs.Ids.{contains}
 use Rattle.phones.specs.Phones.{ids_in}
 use Rattle.list_removals.specs.Marks.{marked}
-use Rattle.phones.proofs.Walk.{Walk, walk_none, walk_here, walk_on}
+use Rattle.phones.proofs.Walk.{walk_none, walk_here, walk_on}
 use Rattle.list_removals.proofs.Turns.{next_fits, index, closer, begins}
 use Rattle.list_removals.proofs.Marks.{marked_none, marked_more}
 use Rattle.list_removals.proofs.shared.Goals as goal
@@ -46,7 +46,7 @@ loop-i-preserved c =
     let loop = c.loop-i in
     let cut = c.part.ensures.0 in
     let is = walk_here _ _ _ _ _ _ _ loop.invariant.0 (omega arith) cut in
-    let f : List ℕ → Bool = λ p. contains p (ids_in (take a.their-count a.their-lens) a.theirs.now) in (
+    let f : List ℕ → Bool = λ p. contains p (ids_in (take a.their_count a.their_lens) a.theirs.now) in (
       walk_on _ _ _ _ _ _ _ loop.invariant.0 (omega arith) cut,
       marked_more f _ _ _ _ loop.invariant.1 (omega arith) (omega arith) (c.found.ensures ∙ ap f is),
     )
@@ -56,4 +56,4 @@ returns c =
     let a = c.args in
     let loop = c.loop-i in
     loop.invariant.1
-    ∙ ap (marked (λ (p : List ℕ). contains p (ids_in (take a.their-count a.their-lens) a.theirs.now))) (take_all loop.i (ids_in (take a.count a.lens) a.bytes.now) (omega arith))
+    ∙ ap (marked (λ (p : List ℕ). contains p (ids_in (take a.their_count a.their_lens) a.theirs.now))) (take_all loop.i (ids_in (take a.count a.lens) a.bytes.now) (omega arith))

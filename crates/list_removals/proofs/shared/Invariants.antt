@@ -1,18 +1,12 @@
 -- The invariant: the first i ids are marked.
-use mathlib.Core.Path.{◌≡◌, ap, ◌∙◌}
-use mathlib.Core.Bool.{Bool}
+use mathlib.Core.Path.{◌≡◌}
 use mathlib.Core.List.{List}
 use Prim.Native.Nat.{ℕ, ◌-◌}
-use native.Mathlib.Omega.{arith}
-use borrow.Author.Rules.{rules}
-use lib.ListN.{length, take}
-use lib.Seq.{take_all}
+use lib.ListN.{take}
 use Rattle.phones.specs.Ids.{contains}
 use Rattle.phones.specs.Phones.{ids_in}
 use Rattle.list_removals.specs.Marks.{marked}
-use Rattle.phones.proofs.Walk.{Walk, walk_none, walk_here, walk_on}
-use Rattle.list_removals.proofs.Turns.{next_fits, index, closer, begins}
-use Rattle.list_removals.proofs.Marks.{marked_none, marked_more}
+use Rattle.phones.proofs.Walk.{Walk}
 use Rattle.list_removals.proofs.shared.Given as goal
 
 abbrev pub invariant-loop-i : goal.invariant-loop-i
