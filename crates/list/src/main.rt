@@ -3,23 +3,27 @@
 #![tactic(auto)]
 
 use input::Input;
-use libc::{STDIN_FILENO, STDOUT_FILENO};
+use std::io::Error;
 
-fn print_listing(input: &[u8]) {
+// Says what failed, and why.
+fn fail(rt: &impl Eprint, stream: &str, error: Error) {
+    let _ = eprintln!(rt; "list: {stream}: {error}");
+}
+
+fn print_listing(rt: &(impl Print + Eprint), input: &[u8]) {
     let listing = listing::list_record(input);
     let bytes = listing.bytes;
     let n = listing.len;
-    if io::write_all(STDOUT_FILENO, &bytes[..n]) {
-        return;
+    if let Err(e) = rt.write_all(&bytes[..n]) {
+        fail(rt, "standard output", e);
     }
-    os::fail(b"list: standard output");
 }
 
 // One byte more than the listing takes, so that a longer input is known by its length.
-fn main() {
+fn main(rt: HostRuntime) {
     let mut buf = [0u8; 8193];
-    match input::read_input(STDIN_FILENO, &mut buf) {
-        Input::Bytes(n) => print_listing(&buf[..n]),
-        Input::Failed => os::fail(b"list: standard input"),
+    match input::read_input(&mut rt.stdin(), &mut buf) {
+        Input::Bytes(n) => print_listing(&rt, &buf[..n]),
+        Input::Failed(e) => fail(&rt, "standard input", e),
     }
 }

@@ -1,7 +1,7 @@
 // Reads byte strings on standard input, each a line of hexadecimal digits, and writes each with its verdict for the code
 // 1234: no text, wrong or right. Its input has the edges of RFC 3629's grammar and of White_Space, and digits in groups. What a
-// program reads and writes is open to a contract: `print_verdict`, `case`, `cases` and `main` give nothing back, and the file
-// `stdout` has what they write.
+// program reads and writes is open to a contract: `print_verdict`, `case`, `cases` and `main` give back only that a read or a write
+// failed, and the file `stdout` has what they write.
 #![tactic(auto)]
 
 ghost use Rattle.std.specs.Prelude.{◌≡◌, ◌+◌, length, drop};
@@ -9,7 +9,8 @@ ghost use Rattle.arrays.specs.Arrays.{padded};
 ghost use Rattle.text_cases.specs.Cases.{line_length, nibble_of, pairs_in, bytes_of, verdict_of};
 
 use hexadecimal::HexValue;
-use libc::{STDIN_FILENO, STDOUT_FILENO};
+use input::Input;
+use std::io;
 
 #[derive(Clone, Copy)]
 enum Verdict {
@@ -31,17 +32,11 @@ fn verdict_of(s: &[u8]) -> Verdict
     Verdict::NoText
 }
 
-fn print_verdict(v: Verdict) {
+fn print_verdict(out: &impl Print, v: Verdict) -> io::Result<()> {
     match v {
-        Verdict::NoText => {
-            io::write_all(STDOUT_FILENO, b" no text\n");
-        }
-        Verdict::Wrong => {
-            io::write_all(STDOUT_FILENO, b" wrong\n");
-        }
-        Verdict::Right => {
-            io::write_all(STDOUT_FILENO, b" right\n");
-        }
+        Verdict::NoText => out.println(" no text"),
+        Verdict::Wrong => out.println(" wrong"),
+        Verdict::Right => out.println(" right"),
     }
 }
 
@@ -84,11 +79,11 @@ fn bytes_of(line: &[u8]) -> [u8; 32]
     bytes
 }
 
-fn case(line: &[u8]) {
+fn case(out: &impl Print, line: &[u8]) -> io::Result<()> {
     let bytes = bytes_of(line);
     let n = pairs(line.len());
-    io::write_all(STDOUT_FILENO, line);
-    print_verdict(verdict_of(&bytes[..n]));
+    out.write_all(line)?;
+    print_verdict(out, verdict_of(&bytes[..n]))
 }
 
 // Where the line that starts at `at` ends.
@@ -105,17 +100,20 @@ fn line_end(s: &[u8], at: usize) -> usize
     e
 }
 
-fn cases(s: &[u8]) {
+fn cases(out: &impl Print, s: &[u8]) -> io::Result<()> {
     let mut at = 0;
     while at < s.len() {
         let e = line_end(s, at);
-        case(&s[at..e]);
+        case(out, &s[at..e])?;
         at = e + 1;
     }
+    Ok(())
 }
 
-fn main() {
-    let mut buf = io::buffer();
-    let n = io::read_full(STDIN_FILENO, &mut buf);
-    cases(&buf[..n]);
+fn main(rt: HostRuntime) -> io::Result<()> {
+    let mut buf = [0u8; 4096];
+    match input::read_input(&mut rt.stdin(), &mut buf) {
+        Input::Bytes(n) => cases(&rt, &buf[..n]),
+        Input::Failed(e) => Err(e),
+    }
 }

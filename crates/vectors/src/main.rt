@@ -1,7 +1,7 @@
 // The examples of FIPS 180-4 and a message of 4,126 bytes, whole and cut in two at every place, and car digests of several
 // lengths: a line each, with the digest in hexadecimal. The file `stdout` was made with another implementation. What a
-// program writes is open to a contract: `digest`, `line`, `message`, `car` and `main` give nothing back, and `stdout` has
-// what they write.
+// program writes is open to a contract: `digest`, `line`, `message`, `car` and `main` give back only that a write failed, and
+// `stdout` has what they write.
 #![tactic(auto)]
 
 ghost use Rattle.std.specs.Prelude.{◌≡◌, ◌+◌, ◌≤◌, length, replicate};
@@ -10,22 +10,23 @@ ghost use Rattle.vectors.specs.Counted.{counted};
 
 use arrays::same_bytes;
 use car_digest::car_digest;
-use libc::STDOUT_FILENO;
 use sha256::{block_count, finish, hash_blocks, initial, sha256, sha256_of_two};
+use std::io;
 
 // Ends a line.
-fn digest(d: [u8; 32]) {
+fn digest(out: &impl Print, d: [u8; 32]) -> io::Result<()> {
     let mut i = 0;
     while i < 32 {
-        io::print_hex(STDOUT_FILENO, d[i] as u64, 2);
+        let b = d[i];
+        print!(out; "{b:02x}")?;
         i += 1;
     }
-    io::write_all(STDOUT_FILENO, b"\n");
+    println!(out; "")
 }
 
-fn line(name: &[u8], d: [u8; 32]) {
-    io::write_all(STDOUT_FILENO, name);
-    digest(d);
+fn line(out: &impl Print, name: &str, d: [u8; 32]) -> io::Result<()> {
+    out.print(name)?;
+    digest(out, d)
 }
 
 // At how many places `m` was cut in two, from the front on, until the two pieces gave another digest than the whole: at all
@@ -48,14 +49,12 @@ fn cuts(m: &[u8]) -> usize
     i
 }
 
-fn message(name: &[u8], m: &[u8])
+fn message(out: &impl Print, name: &str, m: &[u8]) -> io::Result<()>
     requires { length m.now ≤ 4126 }
 {
-    io::write_all(STDOUT_FILENO, b"message=");
-    io::write_all(STDOUT_FILENO, name);
-    io::write_all(STDOUT_FILENO, b" cuts=");
-    io::print_decimal(STDOUT_FILENO, cuts(m) as u64);
-    line(b" digest=", sha256(m));
+    let cuts = cuts(m);
+    print!(out; "message={name} cuts={cuts}")?;
+    line(out, " digest=", sha256(m))
 }
 
 // The digest of one million times "a", 25 blocks at a time.
@@ -87,44 +86,44 @@ fn body() -> [u8; 4126]
 }
 
 // The car digest of a platform and the first `n` bytes of `b`.
-fn car(platform: u32, b: &[u8], n: usize)
+fn car(out: &impl Print, platform: u32, b: &[u8], n: usize) -> io::Result<()>
     requires { n ≤ length b.now }
 {
-    io::write_all(STDOUT_FILENO, b"car platform=");
-    io::print_decimal(STDOUT_FILENO, platform as u64);
-    io::write_all(STDOUT_FILENO, b" bytes=");
-    io::print_decimal(STDOUT_FILENO, n as u64);
+    print!(out; "car platform={platform} bytes={n}")?;
     let r = car_digest(platform, &b[..n]);
     if r.ok {
-        io::write_all(STDOUT_FILENO, b" blocks=");
-        io::print_decimal(STDOUT_FILENO, block_count(30 + n as u64));
+        let blocks = block_count(30 + n as u64);
+        print!(out; " blocks={blocks}")?;
         let d = r.digest;
-        line(b" digest=", d);
+        line(out, " digest=", d)
     } else {
-        io::write_all(STDOUT_FILENO, b" refused\n");
+        out.println(" refused")
     }
 }
 
-fn main() {
-    message(b"empty", b"");
-    message(b"abc", b"abc");
+fn main(rt: HostRuntime) -> io::Result<()> {
+    let out = rt.stdout();
+    message(&out, "empty", b"")?;
+    message(&out, "abc", b"abc")?;
     message(
-        b"448bits",
+        &out,
+        "448bits",
         b"abcdbcdecdefdefgefghfghighijhijkijkljklmklmnlmnomnopnopq",
-    );
+    )?;
     message(
-        b"896bits",
+        &out,
+        "896bits",
         b"abcdefghbcdefghicdefghijdefghijkefghijklfghijklmghijklmnhijklmnoijklmnopjklmnopqklmnopqrlmnopqrsmnopqrstnopqrstu",
-    );
-    line(b"message=million_a digest=", million());
+    )?;
+    line(&out, "message=million_a digest=", million())?;
     let b = body();
-    message(b"4126bytes", &b);
-    car(1, &b, 0);
-    car(305419896, &b, 25);
-    car(305419896, &b, 26);
-    car(9, &b, 33);
-    car(11, &b, 34);
-    car(5, &b, 97);
-    car(4294967295, &b, 4096);
-    car(0, &b, 4097);
+    message(&out, "4126bytes", &b)?;
+    car(&out, 1, &b, 0)?;
+    car(&out, 305419896, &b, 25)?;
+    car(&out, 305419896, &b, 26)?;
+    car(&out, 9, &b, 33)?;
+    car(&out, 11, &b, 34)?;
+    car(&out, 5, &b, 97)?;
+    car(&out, 4294967295, &b, 4096)?;
+    car(&out, 0, &b, 4097)
 }
