@@ -1,5 +1,5 @@
 -- How two pieces are taken in: what is left of the first and the front of the second in one block, and then the rest.
-use Rattle.std.proofs.Common.{◌≡◌, ℕ, ◌+◌, ◌-◌, ◌*◌, ◌/◌, ◌%◌, ◌^◌, ◌<◌, ◌≤◌, List, [], ◌∷◌, ◌++◌, length, take, drop, replicate, sym, ap, ◌∙◌, ap₂, append_assoc, append-nil, le_of_eq, zero-add, arith, length-append, length-drop, take-append-drop, length-take-le, take_all}
+use Rattle.std.proofs.Common.{◌≡◌, ℕ, ◌+◌, ◌-◌, ◌*◌, ◌/◌, ◌%◌, ◌^◌, ◌≤◌, List, [], ◌∷◌, ◌++◌, length, take, drop, replicate, sym, ap, ◌∙◌, ap₂, append_assoc, append-nil, le_of_eq, arith, length-append, length-drop, take-append-drop, length-take-le, take_all}
 use Rattle.arrays.proofs.Laws.{padded_take, put_padded}
 use Rattle.arrays.specs.Arrays.{padded, put}
 use Rattle.sha256.specs.Sha256.{H₀, k, hash_from, finished, pad_last, bytes, bytes4, bytes8}

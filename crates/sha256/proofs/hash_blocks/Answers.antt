@@ -1,4 +1,4 @@
-use Rattle.std.proofs.Common.{◌≡◌, ℕ, ◌-◌, ◌/◌, ◌≤◌, length, refl, ap, ◌∙◌, arith}
+use Rattle.std.proofs.Common.{◌≡◌, ℕ, ◌/◌, length, refl, ap, ◌∙◌, arith}
 use Rattle.sha256.specs.Sha256.{hash_from}
 use Rattle.sha256.proofs.Pieces.{block_is}
 use Rattle.sha256.proofs.hash_blocks.Goals as goal

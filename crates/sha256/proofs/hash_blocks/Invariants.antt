@@ -1,7 +1,6 @@
 -- The invariant: s is the hash value after i blocks.
-use Rattle.std.proofs.Common.{◌≡◌, ℕ, ◌-◌, ◌/◌, ◌≤◌, length, refl, ap, ◌∙◌, arith}
+use Rattle.std.proofs.Common.{◌≡◌, ◌-◌, ◌≤◌}
 use Rattle.sha256.specs.Sha256.{hash_from}
-use Rattle.sha256.proofs.Pieces.{block_is}
 use Rattle.sha256.proofs.hash_blocks.Given as goal
 
 abbrev pub invariant-loop-i : goal.invariant-loop-i

@@ -1,10 +1,10 @@
 -- The rest, 0x80, and the two words of the length are written into zeros.
-use Rattle.std.proofs.Common.{arith, length-set, rules}
+use Rattle.std.proofs.Common.{arith, length-set}
 use Rattle.sha256.proofs.Padding.{end_is}
 use Rattle.sha256.proofs.last.Goals as goal
 
 pub put-requires-2 : goal.put-requires-2
-put-requires-2 c = simp length-set (omega (arith, c.put.auto.0))
+put-requires-2 c = simp length-set (omega (arith, c.put.auto.dst))
 
 pub returns : goal.returns
 returns c =

@@ -1,4 +1,4 @@
-use Rattle.std.proofs.Common.{◌≡◌, ℕ, ◌-◌, ◌*◌, ◌≤◌, List, length, take, sym, refl, ap, ◌∙◌, arith, take_all, rules}
+use Rattle.std.proofs.Common.{◌≡◌, ℕ, ◌*◌, List, length, sym, refl, ap, ◌∙◌, arith, take_all, rules}
 use Rattle.arrays.specs.Arrays.{put}
 use Rattle.sha256.specs.Sha256.{bytes}
 use Rattle.sha256.proofs.Padding.{bytes_step}
@@ -16,7 +16,7 @@ loop-i-preserved c =
     let s = c.args.s in
     let n : length s ≡ 8 = search rules in
     let e = c.put.ensures ∙ ap (λ (b : List ℕ). put l.r (4 * l.i) b) c.big4.ensures in
-    (omega arith, omega (arith, c.put.auto.0), bytes_step s l.r _ l.i (omega arith) (omega arith) l.invariant.2 e)
+    (omega arith, omega (arith, c.put.auto.dst), bytes_step s l.r _ l.i (omega arith) (omega arith) l.invariant.2 e)
 
 pub returns : goal.returns
 returns c =

@@ -1,8 +1,6 @@
 -- The invariant: the bytes of the first i words are written.
-use Rattle.std.proofs.Common.{◌≡◌, ℕ, ◌-◌, ◌*◌, ◌≤◌, List, length, take, sym, refl, ap, ◌∙◌, arith, take_all, rules}
-use Rattle.arrays.specs.Arrays.{put}
+use Rattle.std.proofs.Common.{◌≡◌, ◌-◌, ◌*◌, ◌≤◌, length, take}
 use Rattle.sha256.specs.Sha256.{bytes}
-use Rattle.sha256.proofs.Padding.{bytes_step}
 use Rattle.sha256.proofs.out.Given as goal
 
 abbrev pub invariant-loop-i : goal.invariant-loop-i

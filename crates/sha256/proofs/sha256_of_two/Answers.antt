@@ -1,5 +1,5 @@
 -- The block that is put together of both pieces, and what follows it.
-use Rattle.std.proofs.Common.{◌≡◌, sym, refl, arith, length-take, length-take-le, rules}
+use Rattle.std.proofs.Common.{sym, refl, arith, length-take, length-take-le, rules}
 use Rattle.sha256.proofs.Joined.{ends_in_block, fills_block}
 use Rattle.sha256.proofs.sha256_of_two.Goals as goal
 
@@ -10,7 +10,7 @@ pub returns-then-more-room : goal.returns-then-more-room
 returns-then-more-room c =
     let a = c.args in
     ends_in_block a.a.now a.b.now c.wrapping_add_u64-total.result
-    c.wrapping_add_u64-total.ensures
+    c.wrapping_add_u64-total.ensures.value
     c.hash_blocks-h.ensures
     c.put.ensures
     c.put-then-more-room.ensures
@@ -28,7 +28,7 @@ returns c =
     fills_block a.a.now a.b.now c.wrapping_add_u64-total.result _
     refl
     c.if-more-room.false
-    c.wrapping_add_u64-total.ensures
+    c.wrapping_add_u64-total.ensures.value
     c.hash_blocks-h.ensures
     c.put.ensures
     c.put-2.ensures
