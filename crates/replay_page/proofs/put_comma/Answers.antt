@@ -1,4 +1,3 @@
-use mathlib.Core.Path.{refl}
 use borrow.Author.Tests.{eq-eqb, ne_eqb}
 use Rattle.replay_page.specs.Page.{comma}
 use Rattle.replay_page.proofs.put_comma.Goals as goal

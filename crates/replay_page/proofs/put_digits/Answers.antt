@@ -1,6 +1,5 @@
 use borrow.Author.Tests.{eq-eqb, ne_eqb}
 use Rattle.replay_page.specs.Page.{digits}
-use borrow.Author.Rules.{rules}
 use Rattle.replay_page.proofs.put_digits.Goals as goal
 
 pub returns-then-n-eq0 : goal.returns-then-n-eq0

@@ -1,4 +1,3 @@
-use mathlib.Core.Path.{◌∙◌}
 use Rattle.replay_page.specs.Page.{flag}
 use Rattle.replay_page.proofs.put_flag.Goals as goal
 

@@ -1,4 +1,4 @@
-use mathlib.Core.Path.{refl, ◌∙◌}
+use mathlib.Core.Path.{refl}
 use Rattle.replay_page.specs.Page.{hexadecimal}
 use Rattle.replay_page.proofs.Laws.{mod_twice}
 use borrow.Author.Rules.{rules}

@@ -1,5 +1,3 @@
-use mathlib.Core.Path.{◌∙◌}
-use borrow.Author.Rules.{rules}
 use Rattle.replay_page.proofs.put_high.Goals as goal
 
 pub returns : goal.returns

@@ -1,4 +1,3 @@
-use mathlib.Core.Path.{◌∙◌}
 use Rattle.replay_page.specs.Page.{item}
 use Rattle.replay_page.proofs.put_item.Goals as goal
 

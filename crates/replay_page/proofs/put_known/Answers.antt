@@ -1,5 +1,4 @@
 use Rattle.replay_page.specs.Page.{known}
-use borrow.Author.Rules.{rules}
 use Rattle.replay_page.proofs.put_known.Goals as goal
 
 pub returns-then-yes : goal.returns-then-yes

@@ -1,4 +1,3 @@
-use mathlib.Core.Path.{refl}
 use Rattle.replay_page.specs.Page.{yes_no}
 use Rattle.replay_page.proofs.put_yes_no.Goals as goal
 
