@@ -1,7 +1,7 @@
 -- The record written: the bytes before the cars, then the part of each car, zeros past them.
 use mathlib.Core.Path.{◌≡◌, refl, ◌∙◌}
 use mathlib.Core.List.{List, [], ◌∷◌, ◌++◌, append_assoc, append-nil}
-use Prim.Native.Nat.{ℕ, suc, ◌+◌, ◌*◌, ◌≤◌, ◌<◌}
+use Prim.Native.Nat.{ℕ, ◌+◌, ◌*◌, ◌≤◌, ◌<◌}
 use native.Mathlib.Numerals.{add-one}
 use native.Mathlib.Omega.{arith}
 use lib.ListN.{length, take, get_or, set, replicate, length-append, length-replicate, length-set}
@@ -12,7 +12,6 @@ use Rattle.phone_fields.specs.PhoneFields.{fields}
 use Rattle.phone_fields.proofs.Writing.{put_byte, put_put}
 use Rattle.saved_record.specs.declared.SavedRecord.{SavedRecord}
 use Rattle.saved_record.specs.SavedRecord.{CarIds, car_part, car_parts, encoded, record_of, no_record}
-use Rattle.saved_record.proofs.Parts.{part_length}
 use Rattle.encode_record.specs.Steps.{PutPart}
 
 -- ---- a car's part

@@ -1,12 +1,11 @@
 use mathlib.Core.Path.{◌≡◌, sym, ◌∙◌}
-use Prim.Native.Nat.{◌-◌, ◌≤◌}
 use native.Mathlib.Omega.{arith}
 use borrow.Author.Rules.{rules}
 use lib.ListN.{length}
 use Rattle.arrays.proofs.Laws.{long_map}
 use Rattle.saved_record.specs.Store.{car_of}
 use Rattle.saved_record.proofs.Laws.{past_cars, used, used_clamped, used_length, used_at}
-use Rattle.encode_record.proofs.Writing.{Filled, filled_none, filled_more, filled_all, none_written}
+use Rattle.encode_record.proofs.Writing.{filled_none, filled_more, filled_all, none_written}
 use Rattle.encode_record.proofs.encode_phone_validations.Goals as goal
 
 pub returns-then-n-eq0 : goal.returns-then-n-eq0
@@ -38,7 +37,7 @@ loop-i-preserved c =
     let loop = c.loop-i in
     let put = c.put_car-len in
     let here = used_at n cars loop.i c.loop-i-test.true in
-    (loop.invariant.0, loop.invariant.1, loop.invariant.2, filled_more (used n cars) loop.bytes loop.len loop.i loop.invariant.3 (car_of past_cars) (omega arith) put.new.1.0 put.result (omega arith) (rw here put.ensures))
+    (loop.invariant.0, loop.invariant.1, loop.invariant.2, filled_more (used n cars) loop.bytes loop.len loop.i loop.invariant.3 (car_of past_cars) (omega arith) put.new.out put.result (omega arith) (rw here put.ensures))
 
 pub returns : goal.returns
 returns c =
