@@ -1,12 +1,8 @@
 -- The invariant: the place looked for is the same from i on.
-use mathlib.Core.Path.{◌≡◌, refl, ◌∙◌}
-use Prim.Native.Nat.{◌+◌, ◌-◌, ◌≤◌, suc}
-use native.Mathlib.Omega.{arith}
+use mathlib.Core.Path.{◌≡◌}
+use Prim.Native.Nat.{◌+◌, ◌-◌, ◌≤◌}
 use lib.ListN.{length, drop}
-use borrow.Author.Tests.{eq-eqb, ne_eqb}
 use Rattle.word_table.specs.Words.{before}
-use Rattle.replay_script.proofs.Laws.{before_turn_lem}
-use Rattle.word_table.proofs.Laws.{before_end}
 use Rattle.replay_script.proofs.find.Given as goal
 
 abbrev pub invariant-loop-i : goal.invariant-loop-i

@@ -5,7 +5,6 @@ use native.Mathlib.Omega.{arith}
 use lib.ListN.{drop}
 use mathlib.Core.List.{List, [], ◌∷◌}
 use Rattle.replay_script.specs.Words.{items_of, part}
-use Rattle.word_table.specs.Words.{before}
 use Rattle.replay_script.specs.Places.{values_of, shown, only, item_of}
 use Rattle.replay_script.proofs.item.Goals as goal
 

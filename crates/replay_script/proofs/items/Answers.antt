@@ -1,9 +1,7 @@
-use mathlib.Core.Path.{◌≡◌, ap}
-use Prim.Native.Nat.{◌+◌, ◌-◌, ◌≤◌, ◌<◌}
+use mathlib.Core.Path.{ap}
+use Prim.Native.Nat.{◌+◌}
 use native.Mathlib.Omega.{arith}
-use lib.ListN.{length, drop, get_or}
-use Rattle.replay_script.specs.Words.{items_of}
-use Rattle.word_table.specs.Words.{before}
+use lib.ListN.{length}
 use Rattle.replay_script.proofs.Laws.{found, items_from, items_turn, items_end}
 use Rattle.replay_script.proofs.items.Goals as goal
 

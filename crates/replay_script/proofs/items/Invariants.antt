@@ -1,11 +1,8 @@
 -- The invariant: n items, and those behind `at`, are all.
-use mathlib.Core.Path.{◌≡◌, ap}
+use mathlib.Core.Path.{◌≡◌}
 use Prim.Native.Nat.{◌+◌, ◌-◌, ◌≤◌, ◌<◌}
-use native.Mathlib.Omega.{arith}
 use lib.ListN.{length, drop, get_or}
 use Rattle.replay_script.specs.Words.{items_of}
-use Rattle.word_table.specs.Words.{before}
-use Rattle.replay_script.proofs.Laws.{found, items_from, items_turn, items_end}
 use Rattle.replay_script.proofs.items.Given as goal
 
 abbrev pub invariant-loop-at : goal.invariant-loop-at

@@ -1,9 +1,6 @@
-use mathlib.Core.Path.{◌≡◌, sym, ◌∙◌, ap}
-use Prim.Native.Nat.{◌+◌, ◌-◌, ◌≤◌, ◌<◌}
+use mathlib.Core.Path.{sym, ◌∙◌, ap}
+use Prim.Native.Nat.{◌+◌}
 use native.Mathlib.Omega.{arith}
-use lib.ListN.{length, drop, get_or}
-use Rattle.replay_script.specs.Words.{items_of}
-use Rattle.word_table.specs.Words.{before}
 use Rattle.replay_script.specs.Places.{values_of, shown}
 use Rattle.replay_script.proofs.Laws.{found, items_from, items_end, values_none, word_inside, key_inside, values_hit, values_miss, never}
 use Rattle.replay_script.proofs.next.Goals as goal

@@ -1,12 +1,9 @@
 -- The invariant: the values behind `from` are those behind `at`, where a space stands or the line ends.
-use mathlib.Core.Path.{◌≡◌, sym, ◌∙◌, ap}
-use Prim.Native.Nat.{◌+◌, ◌-◌, ◌≤◌, ◌<◌}
-use native.Mathlib.Omega.{arith}
+use mathlib.Core.Path.{◌≡◌}
+use Prim.Native.Nat.{◌-◌, ◌≤◌, ◌<◌}
 use lib.ListN.{length, drop, get_or}
 use Rattle.replay_script.specs.Words.{items_of}
-use Rattle.word_table.specs.Words.{before}
-use Rattle.replay_script.specs.Places.{values_of, shown}
-use Rattle.replay_script.proofs.Laws.{found, items_from, items_end, values_none, word_inside, key_inside, values_hit, values_miss, never}
+use Rattle.replay_script.specs.Places.{values_of}
 use Rattle.replay_script.proofs.next.Given as goal
 
 abbrev pub invariant-loop-at : goal.invariant-loop-at

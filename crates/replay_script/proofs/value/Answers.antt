@@ -1,4 +1,3 @@
-use mathlib.Core.Path.{sym, ap, ◌∙◌}
 use borrow.Author.Rules.{rules}
 use Rattle.replay_script.specs.Places.{first_of, shown}
 use Rattle.replay_script.proofs.value.Goals as goal
