@@ -1,10 +1,7 @@
 use mathlib.Core.Path.{◌∙◌}
-use mathlib.Core.List.{List, [], ◌∷◌, ◌++◌}
-use Prim.Native.Nat.{◌-◌}
+use mathlib.Core.List.{[], ◌∷◌, ◌++◌}
 use native.Mathlib.Omega.{arith}
-use borrow.Author.Rules.{rules}
-use Rattle.saved_record.specs.SavedRecord.{CarIds}
-use Rattle.decode_record.proofs.Cars.{Gathered, told_none, told, gathered_none, gathered_refused, gathered_more, gathered_trailing, gathered_twice, gathered_large, gathered_all}
+use Rattle.decode_record.proofs.Cars.{told_none, told, gathered_none, gathered_refused, gathered_more, gathered_trailing, gathered_twice, gathered_large, gathered_all}
 use Rattle.decode_record.proofs.read_cars.Goals as goal
 
 pub loop-i-init : goal.loop-i-init

@@ -1,12 +1,9 @@
 -- The loop's invariant: what is kept of the cars read so far, and what is left to read from what remains (`Gathered`). The measure is
 -- what is left of the count.
-use mathlib.Core.Path.{◌∙◌}
-use mathlib.Core.List.{List, [], ◌∷◌, ◌++◌}
+use mathlib.Core.List.{List}
 use Prim.Native.Nat.{◌-◌}
-use native.Mathlib.Omega.{arith}
-use borrow.Author.Rules.{rules}
 use Rattle.saved_record.specs.SavedRecord.{CarIds}
-use Rattle.decode_record.proofs.Cars.{Gathered, told_none, told, gathered_none, gathered_refused, gathered_more, gathered_trailing, gathered_twice, gathered_large, gathered_all}
+use Rattle.decode_record.proofs.Cars.{Gathered}
 use Rattle.decode_record.proofs.read_cars.Given as goal
 
 abbrev pub invariant-loop-i : goal.invariant-loop-i

@@ -1,7 +1,5 @@
 -- The number of cars is the first byte; what stands after it is read by `read_cars`.
 use mathlib.Core.Path.{◌∙◌}
-use native.Mathlib.Omega.{arith}
-use borrow.Author.Rules.{rules}
 use Rattle.saved_record.specs.SavedRecord.{read_two}
 use Rattle.decode_record.proofs.Cars.{refused_part}
 use Rattle.decode_record.proofs.Reading.{tail_part, two_none, two_zero, two_many, two_cars_lem}

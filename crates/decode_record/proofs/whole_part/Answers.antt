@@ -1,7 +1,6 @@
 -- The digest is copied into zeros.
 use mathlib.Core.Path.{sym}
 use native.Mathlib.Omega.{arith}
-use borrow.Author.Rules.{rules}
 use lib.Seq.{length-take-le}
 use Rattle.decode_record.proofs.Reading.{car_copied}
 use Rattle.decode_record.proofs.whole_part.Goals as goal
