@@ -1,6 +1,5 @@
 -- The first byte, if there is one. Assumes nothing.
 use mathlib.Core.Path.{◌∙◌}
-use borrow.Author.Rules.{rules}
 use Rattle.text.proofs.Groups.{no_digit, first_digit}
 use Rattle.text.proofs.begins_digit.Goals as goal
 

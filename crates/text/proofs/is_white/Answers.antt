@@ -9,16 +9,16 @@ use Rattle.text.proofs.White.{not_white}
 use Rattle.text.proofs.is_white.Goals as goal
 
 pub returns-in_default : goal.returns-in_default
-returns-in_default c = not_white c.args.c c.in_default-1.rest.1 (omega arith) (omega arith) (omega arith)
+returns-in_default c = not_white c.args.c c.in_default.in_default-own.rest.1 (omega arith) (omega arith) (omega arith)
 
 pub returns-in_default-2 : goal.returns-in_default-2
-returns-in_default-2 c = not_white c.args.c c.in_default-1.rest.1 (omega arith) (omega arith) (omega arith)
+returns-in_default-2 c = not_white c.args.c c.in_default.in_default-own.rest.1 (omega arith) (omega arith) (omega arith)
 
 pub returns-in_default-3 : goal.returns-in_default-3
-returns-in_default-3 c = not_white c.args.c c.in_default-1.rest.1 (omega arith) (omega arith) (omega arith)
+returns-in_default-3 c = not_white c.args.c c.in_default.in_default-own.rest.1 (omega arith) (omega arith) (omega arith)
 
 pub returns-in_default-4 : goal.returns-in_default-4
-returns-in_default-4 c = not_white c.args.c c.in_default-1.rest.1 (omega arith) (omega arith) (omega arith)
+returns-in_default-4 c = not_white c.args.c c.in_default.in_default-own.rest.1 (omega arith) (omega arith) (omega arith)
 
 pub returns-in-9-to-13 : goal.returns-in-9-to-13
 unfolding white within
@@ -26,7 +26,7 @@ returns-in-9-to-13 c =
     ⊎_elim (λ e. rw e)
     (⊎_elim (λ e. rw e)
     (⊎_elim (λ e. rw e) (⊎_elim (λ e. rw e) (⊎_elim (λ e. rw e) (⊎_elim (λ e. rw e) (λ e. rw e))))))
-    c.in-9-to-13.keys1
+    c.in-9-to-13.in-9-to-13-own.keys1
 
 pub returns-in-9-to-13-2 : goal.returns-in-9-to-13-2
 unfolding white

@@ -1,5 +1,4 @@
 -- By the one test. Assumes nothing.
-use borrow.Author.Rules.{rules}
 use Rattle.text.specs.Steps.{kept_of}
 use Rattle.text.proofs.keep.Goals as goal
 

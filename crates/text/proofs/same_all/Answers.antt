@@ -1,10 +1,5 @@
-use mathlib.Core.Path.{◌≡◌, refl, sym}
-use mathlib.Core.Bool.{false, cond}
-use Prim.Native.Nat.{◌≤◌, ◌-◌}
+use mathlib.Core.Path.{refl, sym}
 use native.Mathlib.Omega.{arith}
-use lib.Dec.{eqb}
-use lib.ListN.{length, drop}
-use Rattle.arrays.specs.Arrays.{same_bytes}
 use Rattle.arrays.proofs.Laws.{same_length}
 use Rattle.text.proofs.Same.{gather_step, gather_end}
 use Rattle.text.proofs.same_all.Goals as goal

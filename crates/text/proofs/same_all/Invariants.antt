@@ -1,13 +1,10 @@
 -- The invariant: the strings are the same if nothing differed before i and they are the same from i on. Assumes nothing.
-use mathlib.Core.Path.{◌≡◌, refl, sym}
+use mathlib.Core.Path.{◌≡◌}
 use mathlib.Core.Bool.{false, cond}
 use Prim.Native.Nat.{◌≤◌, ◌-◌}
-use native.Mathlib.Omega.{arith}
 use lib.Dec.{eqb}
 use lib.ListN.{length, drop}
 use Rattle.arrays.specs.Arrays.{same_bytes}
-use Rattle.arrays.proofs.Laws.{same_length}
-use Rattle.text.proofs.Same.{gather_step, gather_end}
 use Rattle.text.proofs.same_all.Given as goal
 
 abbrev pub invariant-loop-i : goal.invariant-loop-i

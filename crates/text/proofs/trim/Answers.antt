@@ -1,38 +1,43 @@
-use mathlib.Core.Path.{◌≡◌, ap, sym, ◌∙◌}
-use Prim.Native.Nat.{◌-◌, ◌<◌}
-use native.Mathlib.Omega.{arith}
-use borrow.Author.Rules.{rules}
-use lib.ListN.{length, drop, length-drop}
-use lib.Seq.{take_all}
+use Rattle.std.proofs.Common.{◌≡◌, ℕ, ◌-◌, List, length, take, drop, ap, sym, ◌∙◌, arith, length-drop, take_all}
+use Rattle.utf8.specs.declared.Char.{Char}
 use Rattle.utf8.specs.First.{first_char}
-use Rattle.text.proofs.Scan.{Scanned, scan_start, scan_turn, scan_bad, scan_end, next_fits}
+use Rattle.text.proofs.Scan.{scan_start, scan_turn, scan_bad, scan_end, next_fits}
 use Rattle.text.proofs.trim.Goals as goal
 
--- the part that was lent is all that is left
-first : (c : tie.After-first-char invariant-loop decreases-loop)
-    → c.first_char.result ≡ first_char (drop c.before.before.before.before.loop.t.at c.before.before.before.before.before.before.args.s.now)
-first c =
-    let s = c.before.before.before.before.before.before.args.s.now in
-    let at = c.before.before.before.before.loop.t.at in
-    c.first_char.ensures ∙ ap first_char (take_all (length s - at) (drop at s) (rw length-drop (omega arith)))
-
-turned : (c : tie.After-turn invariant-loop decreases-loop)
-    → Scanned c.before.before.before.before.before.before.before.before.before.before.args.s.now c.turn.result
-    × (c.before.before.before.before.before.before.before.before.loop.t.at < c.turn.result.at)
-turned c =
-    let s = c.before.before.before.before.before.before.before.before.before.before.args.s.now in
-    let l = c.before.before.before.before.before.before.before.before.loop in
-    let p = c.before.before.c.given in
-    rw c.turn.ensures (scan_turn s l.t p.0.0 p.0.1.0 l.invariant (sym (first c.before.before.before.before) ∙ p.1))
+-- the part that is lent is all that is left
+whole : (s : List ℕ) (at : ℕ) (r : Char) → r ≡ first_char (take (length s - at) (drop at s)) → first_char (drop at s) ≡ r
+whole s at r e = sym (e ∙ ap first_char (take_all (length s - at) (drop at s) (rw length-drop (omega arith))))
 
 pub loop-t-init : goal.loop-t-init
 loop-t-init c = scan_start c.args.s.now
 
+pub returns-in_default : goal.returns-in_default
+returns-in_default c =
+    let s = c.args.s.now in
+    let l = c.loop-t in
+    scan_bad s l.t l.invariant c.loop-t-test.true (whole s l.t.at _ c.in_default.ensures)
+
+pub overflow_add-at : goal.overflow_add-at
+overflow_add-at c =
+    let s = c.args.s.now in
+    let l = c.loop-t in
+    let p = c.in-Point in
+    omega (arith, next_fits s l.t p.c p.size l.invariant (whole s l.t.at _ p.ensures))
+
 pub loop-t-smaller : goal.loop-t-smaller
-loop-t-smaller c = omega (arith, (turned c).1, (turned c).0.fits)
+loop-t-smaller c =
+    let s = c.args.s.now in
+    let l = c.loop-t in
+    let p = c.in-Point in
+    let k = scan_turn s l.t p.c p.size l.invariant (whole s l.t.at _ p.ensures) in
+    rw c.turn-t.ensures (omega (arith, k.1, k.0.fits))
 
 pub loop-t-preserved : goal.loop-t-preserved
-loop-t-preserved c = (turned c).0
+loop-t-preserved c =
+    let s = c.args.s.now in
+    let l = c.loop-t in
+    let p = c.in-Point in
+    rw c.turn-t.ensures (scan_turn s l.t p.c p.size l.invariant (whole s l.t.at _ p.ensures)).0
 
 pub returns : goal.returns
 returns c =

@@ -1,12 +1,11 @@
 use mathlib.Core.Path.{◌≡◌, refl, ap, ◌∙◌}
 use Prim.Native.Nat.{◌+◌, ◌-◌}
 use native.Mathlib.Omega.{arith}
-use borrow.Author.Rules.{rules}
 use lib.ListN.{length, drop, get_or, length-drop}
 use lib.Seq.{take_all}
 use Rattle.arrays.specs.Arrays.{padded}
 use Rattle.text.specs.Text.{is_dropped}
-use Rattle.text.proofs.Groups.{Kept, kept_start, kept_next, kept_ten, kept_end}
+use Rattle.text.proofs.Groups.{kept_start, kept_next, kept_ten, kept_end}
 use Rattle.text.proofs.ungroup.Goals as goal
 
 pub loop-i-init : goal.loop-i-init
