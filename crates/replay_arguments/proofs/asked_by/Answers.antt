@@ -1,6 +1,5 @@
 -- The four cases of the definition. Assumes nothing.
 use borrow.Author.Tests.{lt-ltb, le-ltb}
-use borrow.Author.Rules.{rules}
 use Rattle.replay_arguments.specs.Arguments.{asked_by}
 use Rattle.replay_arguments.proofs.asked_by.Goals as goal
 
