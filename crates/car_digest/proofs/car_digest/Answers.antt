@@ -1,9 +1,8 @@
 -- The first 30 bytes and the fingerprint are the two pieces.
 use mathlib.Core.Bool.{true}
 use mathlib.Core.List.{List}
-use mathlib.Core.Path.{◌≡◌, ap}
+use mathlib.Core.Path.{ap}
 use Prim.Native.Nat.{ℕ}
-use borrow.Author.Rules.{rules}
 use borrow.Author.Tests.{lt-ltb, le-ltb}
 use Rattle.car_digest.specs.declared.Digested.{Digested}
 use Rattle.car_digest.specs.CarDigest.{car_digest}

@@ -1,5 +1,4 @@
 -- The fixed string and the platform number are written into zeros.
-use borrow.Author.Rules.{rules}
 use Rattle.car_digest.specs.CarDigest.{domain}
 use Rattle.car_digest.proofs.Message.{written}
 use Rattle.car_digest.proofs.opening.Goals as goal
