@@ -1,10 +1,7 @@
 use mathlib.Core.Path.{◌≡◌, sym, ◌∙◌}
-use Prim.Native.Nat.{◌≤◌, ◌-◌, ◌+◌}
 use native.Mathlib.Omega.{arith}
-use lib.ListN.{length, drop}
 use Rattle.word_table.specs.Words.{lines_of, rest_of, before}
 use Rattle.word_table.proofs.Laws.{end_inside}
-use Rattle.replay_names.specs.Names.{exactly}
 use Rattle.replay_names.proofs.Laws.{one_less, not_right, too_many, none_left}
 use Rattle.replay_names.proofs.has_all.Goals as goal
 

@@ -1,12 +1,9 @@
 -- The invariant: what is asked of all words and the count is asked of the words from `at` on and what is left of the count.
-use mathlib.Core.Path.{◌≡◌, sym, ◌∙◌}
-use Prim.Native.Nat.{◌≤◌, ◌-◌, ◌+◌}
-use native.Mathlib.Omega.{arith}
+use mathlib.Core.Path.{◌≡◌}
+use Prim.Native.Nat.{◌-◌}
 use lib.ListN.{length, drop}
-use Rattle.word_table.specs.Words.{lines_of, rest_of, before}
-use Rattle.word_table.proofs.Laws.{end_inside}
+use Rattle.word_table.specs.Words.{lines_of, rest_of}
 use Rattle.replay_names.specs.Names.{exactly}
-use Rattle.replay_names.proofs.Laws.{one_less, not_right, too_many, none_left}
 use Rattle.replay_names.proofs.has_all.Given as goal
 
 abbrev pub invariant-loop-at : goal.invariant-loop-at

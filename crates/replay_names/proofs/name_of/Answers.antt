@@ -1,5 +1,4 @@
 -- The lines of the text are the words of the list, which antt computes.
-use borrow.Author.Rules.{rules}
 use Rattle.word_table.specs.Words.{lines_of}
 use Rattle.replay_names.specs.Names.{table, rows}
 use Rattle.replay_names.proofs.name_of.Goals as goal

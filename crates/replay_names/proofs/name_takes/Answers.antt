@@ -1,5 +1,4 @@
 -- The lines of the two texts are the rows and the keys, which antt computes.
-use borrow.Author.Rules.{rules}
 use Rattle.word_table.specs.Words.{lines_of}
 use Rattle.replay_names.specs.Names.{table, key_names, rows, keys}
 use Rattle.replay_names.proofs.name_takes.Goals as goal
