@@ -8,7 +8,7 @@ ghost use Rattle.convert.specs.Arguments.{target_of};
 
 use converter::Conversion;
 use input::Input;
-use libc::{STDERR_FILENO, STDIN_FILENO, STDOUT_FILENO};
+use std::io::{Error, Read};
 
 // The version that is asked for.
 #[derive(Clone, Copy)]
@@ -32,49 +32,53 @@ fn target_of(count: usize, word: &[u8]) -> Target
     Target::Unknown
 }
 
-fn say(line: &[u8]) {
-    io::write_all(STDERR_FILENO, line);
+fn say(rt: &impl Eprint, line: &str) {
+    let _ = rt.eprintln(line);
 }
 
-fn print(bytes: &[u8]) {
-    if io::write_all(STDOUT_FILENO, bytes) {
-        return;
+// Says what failed, and why.
+fn fail(rt: &impl Eprint, stream: &str, error: Error) {
+    let _ = eprintln!(rt; "convert: {stream}: {error}");
+}
+
+fn print(rt: &(impl Print + Eprint), bytes: &[u8]) {
+    if let Err(e) = rt.write_all(bytes) {
+        fail(rt, "standard output", e);
     }
-    os::fail(b"convert: standard output");
 }
 
 // No record that is accepted has more than 4,358 bytes, so ShortOutput is never said.
-fn print_converted(saved: &[u8], two: bool) {
+fn print_converted(rt: &(impl Print + Eprint), saved: &[u8], two: bool) {
     let mut out = [0u8; 4358];
     let converted = converter::convert_phone_validations(saved, two, &mut out);
     let answer = converted.answer;
     let n = converted.room;
     match answer {
-        Conversion::Done => print(&out[..n]),
-        Conversion::Malformed => say(b"22/Malformed\n"),
-        Conversion::CarTwice => say(b"28/CarTwice\n"),
-        Conversion::TooLarge => say(b"23/TooLarge\n"),
-        Conversion::ManyCars => say(b"29/ManyCars\n"),
-        Conversion::ShortOutput => say(b"30/ShortOutput\n"),
+        Conversion::Done => print(rt, &out[..n]),
+        Conversion::Malformed => say(rt, "22/Malformed"),
+        Conversion::CarTwice => say(rt, "28/CarTwice"),
+        Conversion::TooLarge => say(rt, "23/TooLarge"),
+        Conversion::ManyCars => say(rt, "29/ManyCars"),
+        Conversion::ShortOutput => say(rt, "30/ShortOutput"),
     }
 }
 
 // So many bytes of an input decide, whatever its length (first-bytes-decide in converter/proofs/Long.antt).
-fn convert(two: bool) {
+fn convert(rt: &(impl Print + Eprint), saved: &mut impl Read, two: bool) {
     let mut buf = [0u8; 261255];
-    match input::read_input(STDIN_FILENO, &mut buf) {
-        Input::Bytes(n) => print_converted(&buf[..n], two),
-        Input::Failed => os::fail(b"convert: standard input"),
+    match input::read_input(saved, &mut buf) {
+        Input::Bytes(n) => print_converted(rt, &buf[..n], two),
+        Input::Failed(e) => fail(rt, "standard input", e),
     }
 }
 
-fn main() {
+fn main(rt: HostRuntime) {
     let mut word = [0u8; 2];
-    let n = os::arg(1, &mut word);
-    let target = target_of(os::arg_count(), &word[..n]);
+    let n = input::arg(&rt, 1, &mut word);
+    let target = target_of(input::arg_count(&rt), &word[..n]);
     match target {
-        Target::One => convert(false),
-        Target::Two => convert(true),
-        Target::Unknown => say(b"convert: the version is 1 or 2\n"),
+        Target::One => convert(&rt, &mut rt.stdin(), false),
+        Target::Two => convert(&rt, &mut rt.stdin(), true),
+        Target::Unknown => say(&rt, "convert: the version is 1 or 2"),
     }
 }
