@@ -2,7 +2,6 @@
 use mathlib.Core.Path.{refl}
 use native.Mathlib.Omega.{arith}
 use Rattle.decimal.proofs.Laws.{put_one}
-use borrow.Author.Rules.{rules}
 use Rattle.car_lines.proofs.put_end.Goals as goal
 
 pub returns : goal.returns

@@ -5,7 +5,6 @@ use lib.ListN.{length}
 use Rattle.hexadecimal.specs.Hex.{hex_of}
 use Rattle.hexadecimal.proofs.Laws.{hex_length}
 use Rattle.car_lines.proofs.Laws.{line_length_lem, wrote_line}
-use borrow.Author.Rules.{rules}
 use Rattle.car_lines.proofs.put_hex_line.Goals as goal
 
 pub put_text-from-requires : goal.put_text-from-requires
@@ -30,5 +29,5 @@ returns c =
     let u = c.put_end in
     let h = hex_length a.bytes.now in
     let end = w.result + 2 * length a.bytes.now in
-    wrote_line a.dst.now a.at name value w.new.0 w.result v.new.0 end u.new.0 u.result
+    wrote_line a.dst.now a.at name value w.new.dst w.result v.new.dst end u.new.dst u.result
     w.ensures (record { bytes = v.ensures; place = omega arith }) u.ensures (omega arith)

@@ -2,7 +2,6 @@
 use native.Mathlib.Omega.{arith}
 use Rattle.decimal.specs.Decimal.{decimal_of}
 use Rattle.car_lines.proofs.Laws.{line_length_lem, wrote_line}
-use borrow.Author.Rules.{rules}
 use Rattle.car_lines.proofs.put_number_line.Goals as goal
 
 pub put_text-from-requires : goal.put_text-from-requires
@@ -20,5 +19,5 @@ returns c =
     let w = c.put_text-from in
     let v = c.put_decimal-end in
     let u = c.put_end in
-    wrote_line a.dst.now a.at a.name.now (decimal_of a.n) w.new.0 w.result v.new.0 v.result u.new.0 u.result
+    wrote_line a.dst.now a.at a.name.now (decimal_of a.n) w.new.dst w.result v.new.dst v.result u.new.dst u.result
     w.ensures (record { bytes = v.ensures.1; place = v.ensures.0 }) u.ensures (omega arith)

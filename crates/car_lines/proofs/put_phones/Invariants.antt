@@ -1,12 +1,6 @@
 -- The invariant: the lines of the ids that are left, written from `end` on, make what is to be written, and the place after them is the
 -- place that is told (`Walking`).
-use mathlib.Core.Path.{refl, sym, ◌∙◌}
-use native.Mathlib.Omega.{arith}
-use borrow.Author.Rules.{rules}
-use Prim.Native.Nat.{◌+◌, ◌≤◌}
-use lib.ListN.{length}
-use Rattle.reader.proofs.Laws.{field_inside}
-use Rattle.car_lines.proofs.Walk.{Walking, walking_first, walking_fits, walking_on, walking_done, ids_none, ids_short, ids_end, place_none, place_short, place_end}
+use Rattle.car_lines.proofs.Walk.{Walking}
 use Rattle.car_lines.proofs.put_phones.Given as goal
 
 abbrev pub invariant-loop-left : goal.invariant-loop-left
