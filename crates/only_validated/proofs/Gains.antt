@@ -34,7 +34,7 @@ use Rattle.validations.proofs.Laid.{store_after}
 use Rattle.session.specs.declared.Lapse.{Lapse}
 use Rattle.session.specs.Session.{ended_as, is_of, cannot_go_on, lapse_of}
 use Rattle.validation.specs.Calls as Validation
-use Rattle.definition.specs.Gate.{SessionCall, ListCall, Call, Says, saying, validates, served, queueing, ended, listing, says, left, gives, step, after}
+use Rattle.definition.specs.Gate.{SessionCall, ListCall, Call, Says, full_for, saying, validates, served, queueing, ended, listing, says, left, gives, step, after}
 use Rattle.definition.specs.Gate as Gate
 use Rattle.footprint.proofs.Lists.{lists_keep}
 use Rattle.only_validated.specs.Row.{Listed, NotListed, session, Validates, by_code, by_action, by_record}
@@ -168,8 +168,12 @@ module _ (g : Gate) where
   unfolding says queueing saying view
   gain_call (Gate.new_gate_call settings methods count) = gain_none _ _
   gain_call (Gate.start_validation phone method clock random) = gain_served _ _ (gain_stays _ _)
-  gain_call (Gate.submit_validation_code phone typed clock) = gain_served _ _ (gain_ended _ _ _ _ (only_submit g phone typed clock _).only)
-  gain_call (Gate.on_session k) = gain_served _ _ (gain_ended _ _ _ _ (gain_session _ k).only)
+  gain_call (Gate.submit_validation_code phone typed clock) =
+      let e = Validation.submit g.core phone clock (is_text typed) (right g.code g.core.settings.digits typed) (full_for (view g)) in
+      gain_served _ _ (gain_ended _ _ e.said.core.validation.session e.validates (only_submit g phone typed clock (full_for (view g))).only)
+  gain_call (Gate.on_session k) =
+      let e = ended g.core (full_for (view g)) k in
+      gain_served _ _ (gain_ended _ _ e.said.core.validation.session e.validates (gain_session (full_for (view g)) k).only)
   gain_call (Gate.on_lists k) = gain_served _ _ (gain_listing k)
   gain_call (Gate.on_save k) = gain_served _ _ (gain_stays _ _)
   gain_call (Gate.on_queue (Gate.send_can_frame list frame class owner)) = gain_served _ _ (gain_stays _ _)
