@@ -9,10 +9,11 @@ ghost use Rattle.replay_played.specs.Played.{most_read, line_room};
 ghost use Rattle.replay_given.specs.Turns.{turn_of};
 ghost use Rattle.replay.specs.Script.{kept_len, kept_in, line_in, line_gives, host_after, read, ReadOn, reading_of, next_line};
 
-use libc::{STDERR_FILENO, STDIN_FILENO, STDOUT_FILENO};
 use replay_arguments::Asked;
 use replay_given::Played;
 use replay_host::Host;
+use std::env::{Env, FillError};
+use std::io::{Error, Read};
 
 // The host, the number of the line that is being read, and how much of it is there; above the room for a line: it is too
 // long. Not `going`: the script has ended, or reading or writing failed.
@@ -25,17 +26,21 @@ struct Replay {
 }
 
 // Says that an argument is not known; of a long one the first 256 bytes.
-fn refuse(place: usize) {
+fn refuse(rt: &impl Env, err: &impl Print, place: usize) {
     let mut word = [0u8; 256];
-    let n = os::arg(place, &mut word);
-    let long = os::errno() == libc::ENAMETOOLONG;
-    io::write_all(STDERR_FILENO, b"replay: unknown argument '");
-    if long {
-        io::write_all(STDERR_FILENO, &word);
-    } else {
-        io::write_all(STDERR_FILENO, &word[..n]);
-    }
-    io::write_all(STDERR_FILENO, b"'; it takes --state or none\n");
+    let said = rt.arg(place, &mut word);
+    let _ = err.print("replay: unknown argument '");
+    let _ = match said {
+        Ok(n) => err.write_all(&word[..n]),
+        Err(FillError::TooLong) => err.write_all(&word),
+        Err(FillError::NotPresent) => Ok(()),
+    };
+    let _ = err.println("'; it takes --state or none");
+}
+
+// Says what failed, and why.
+fn fail(rt: &impl Eprint, stream: &str, error: Error) {
+    let _ = eprintln!(rt; "replay: {stream}: {error}");
 }
 
 // Puts more of a line behind what is there.
@@ -53,14 +58,14 @@ fn keep(line: &mut [u8], len: usize, more: &[u8]) -> usize
 }
 
 // Prints the first `at` bytes that were laid down. Whether that goes well is open.
-fn print(out: &[u8], at: usize) -> bool
+fn print(rt: &(impl Print + Eprint), out: &[u8], at: usize) -> bool
     requires { at ≤ length out.now }
 {
-    if io::write_all(STDOUT_FILENO, &out[..at]) {
-        return true;
+    if let Err(e) = rt.write_all(&out[..at]) {
+        fail(rt, "standard output", e);
+        return false;
     }
-    os::fail(b"replay: standard output");
-    false
+    true
 }
 
 // Lays down what a line gives, which fits; one that is passed over gives nothing. What is left in `room` is open: nothing reads it
@@ -82,13 +87,20 @@ fn give_line(p: Replay, line: &[u8], states: bool, room: &mut [u8], out: &mut [u
 
 // Plays the line that has ended; the next one has no byte yet. Open is whether it goes on, and what is left in `room` and `out`,
 // which nothing reads again.
-fn finish_line(p: Replay, line: &[u8], states: bool, room: &mut [u8], out: &mut [u8]) -> Replay
+fn finish_line(
+    rt: &(impl Print + Eprint),
+    p: Replay,
+    line: &[u8],
+    states: bool,
+    room: &mut [u8],
+    out: &mut [u8],
+) -> Replay
     requires { (length line.now ≤ length room.old) × (line_room ≤ length out.old) × (length line.now ≤ most_read) }
     ensures { result ≡ next_line p.number (host_after p.host p.number (line_in line.now p.len)) result.going }
 {
     let r = give_line(p, line, states, room, out);
     let host = r.host;
-    let going = print(out, r.at);
+    let going = print(rt, out, r.at);
     Replay {
         host,
         number: std::num::wrapping_add_u64(p.number, 1),
@@ -99,6 +111,7 @@ fn finish_line(p: Replay, line: &[u8], states: bool, room: &mut [u8], out: &mut 
 
 // Plays the lines that end in this piece of the script. If it does not go on, what is left is open: nothing reads it again.
 fn read_piece(
+    rt: &(impl Print + Eprint),
     p: Replay,
     piece: &[u8],
     line: &mut [u8],
@@ -117,7 +130,7 @@ fn read_piece(
         if piece.len() <= e {
             return q;
         }
-        q = finish_line(q, line, states, room, out);
+        q = finish_line(rt, q, line, states, room, out);
         if q.going {
             from = e + 1;
         } else {
@@ -129,27 +142,41 @@ fn read_piece(
 
 // Reads a piece of the script. At its end the last line is played, and then, or if reading fails, it does not go on. Which
 // bytes the piece has is open, and if it does not go on, what is left.
-fn turn(p: Replay, line: &mut [u8], states: bool, room: &mut [u8], out: &mut [u8]) -> Replay
+fn turn(
+    rt: &(impl Print + Eprint),
+    script: &mut impl Read,
+    p: Replay,
+    line: &mut [u8],
+    states: bool,
+    room: &mut [u8],
+    out: &mut [u8],
+) -> Replay
     requires { (length line.old ≤ length room.old) × (line_room ≤ length out.old) × (length line.old ≤ most_read) }
     ensures { result.going ≡ true → ReadOn (length line.old) (reading_of p line.old) (reading_of result line.new) }
 {
-    let mut piece = io::buffer();
-    let got = libc::read(STDIN_FILENO, &mut piece);
-    let n = io::count(got, &piece);
-    if 0 < n {
-        return read_piece(p, &piece[..n], line, states, room, out);
-    }
+    let mut piece = [0u8; 4096];
     let mut q = p;
-    if got < 0 {
-        os::fail(b"replay: standard input");
-    } else if 0 < q.len {
-        q = finish_line(q, line, states, room, out);
+    match script.read(&mut piece) {
+        Ok(0) => {
+            if 0 < q.len {
+                q = finish_line(rt, q, line, states, room, out);
+            }
+        }
+        Ok(n) => return read_piece(rt, p, &piece[..n], line, states, room, out),
+        Err(e) => fail(rt, "standard input", e),
     }
     q.going = false;
     q
 }
 
-fn run(states: bool, line: &mut [u8], room: &mut [u8], out: &mut [u8])
+fn run(
+    rt: &(impl Print + Eprint),
+    script: &mut impl Read,
+    states: bool,
+    line: &mut [u8],
+    room: &mut [u8],
+    out: &mut [u8],
+)
     requires { (length line.old ≤ length room.old) × (line_room ≤ length out.old) × (length line.old ≤ most_read) }
 {
     let first = replay_player::first_host();
@@ -161,7 +188,7 @@ fn run(states: bool, line: &mut [u8], room: &mut [u8], out: &mut [u8])
     };
     let mut turns: u64 = 18446744073709551615;
     while 0 < turns {
-        p = turn(p, line, states, room, out);
+        p = turn(rt, script, p, line, states, room, out);
         if p.going {
             turns -= 1;
         } else {
@@ -170,20 +197,20 @@ fn run(states: bool, line: &mut [u8], room: &mut [u8], out: &mut [u8])
     }
 }
 
-fn play(states: bool) {
+fn play(rt: &(impl Print + Eprint), script: &mut impl Read, states: bool) {
     let mut line = [0u8; 16384];
     let mut room = [0u8; 16384];
     let mut out = replay_played::line_memory();
-    run(states, &mut line, &mut room, &mut out);
+    run(rt, script, states, &mut line, &mut room, &mut out);
 }
 
-fn main() {
+fn main(rt: HostRuntime) {
     let mut first = [0u8; 16];
-    let n = os::arg(1, &mut first);
-    let asked = replay_arguments::asked_by(os::arg_count(), &first[..n]);
+    let n = input::arg(&rt, 1, &mut first);
+    let asked = replay_arguments::asked_by(input::arg_count(&rt), &first[..n]);
     match asked {
-        Asked::Lines => play(false),
-        Asked::States => play(true),
-        Asked::Unknown(place) => refuse(place),
+        Asked::Lines => play(&rt, &mut rt.stdin(), false),
+        Asked::States => play(&rt, &mut rt.stdin(), true),
+        Asked::Unknown(place) => refuse(&rt, &rt.stderr(), place),
     }
 }

@@ -7,7 +7,7 @@ use Rattle.replay.proofs.Laws.{read_none, piece_end, piece_on}
 use Rattle.replay.proofs.read_piece.Given as goal
 
 abbrev pub invariant-loop-from : goal.invariant-loop-from
-invariant-loop-from l = (l.from ≤ length l.piece) × (length l.line ≡ length l.initial.line) × (length l.room ≡ length l.initial.room) × (length l.out ≡ length l.initial.out) × (read (length l.initial.line) l.piece (reading_of l.initial.q l.initial.line) ≡ read (length l.initial.line) (drop l.from l.piece) (reading_of l.q l.line))
+invariant-loop-from g l = (l.from ≤ length l.piece) × (length l.line ≡ length l.initial.line) × (length l.room ≡ length l.initial.room) × (length l.out ≡ length l.initial.out) × (read (length l.initial.line) l.piece (reading_of l.initial.q l.initial.line) ≡ read (length l.initial.line) (drop l.from l.piece) (reading_of l.q l.line))
 
 abbrev pub decreases-loop-from : goal.decreases-loop-from
-decreases-loop-from l = length l.piece - l.from
+decreases-loop-from g l = length l.piece - l.from
