@@ -60,7 +60,6 @@ fn first_car(saved: &[u8]) -> usize
 }
 
 // The lines of a record. A longer input than 8 KiB is refused by its length alone.
-#[tactic(auto, unfolding(crate::specs::Listing::listing_of, crate::specs::Listing::lines))]
 pub fn list_record(input: &[u8]) -> Listing
     ensures { result ≡ listing_of input.now }
 {

@@ -1,14 +1,10 @@
 -- The invariant: the lines of the cars that are left, written from `len` on, make what is to be written, and their parts stand in the record
 -- from `next` on (`Listed`). The measure is what is left of the count.
-use mathlib.Core.Path.{◌≡◌, sym, ◌∙◌}
-use Prim.Native.Nat.{ℕ, ◌-◌, ◌≤◌}
-use native.Mathlib.Omega.{arith}
-use borrow.Author.Rules.{rules}
-use lib.ListN.{length, length-replicate}
-use Rattle.arrays.proofs.Laws.{long_map}
-use Rattle.saved_record.specs.Store.{car_of, cars_of}
-use Rattle.saved_record.proofs.Laws.{past_cars, used, used_clamped, used_length, used_at}
-use Rattle.listing.proofs.Cars.{Listed, listed_first, listed_stands, listed_fits, listed_more, listed_all}
+use mathlib.Core.Path.{◌≡◌}
+use Prim.Native.Nat.{◌-◌, ◌≤◌}
+use lib.ListN.{length}
+use Rattle.saved_record.proofs.Laws.{used}
+use Rattle.listing.proofs.Cars.{Listed}
 use Rattle.listing.proofs.accepted.Given as goal
 
 abbrev pub invariant-loop-i : goal.invariant-loop-i

@@ -1,5 +1,4 @@
 -- By the first byte.
-use borrow.Author.Rules.{rules}
 use Rattle.listing.proofs.Record.{first_none, first_one, first_two}
 use Rattle.listing.proofs.first_car.Goals as goal
 
