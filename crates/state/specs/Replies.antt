@@ -1,5 +1,5 @@
 -- Signals, and what an operation on a core says.
-use Rattle.std.specs.Prelude.{Bool, true, false, cond, List, ℕ, replicate}
+use Rattle.std.specs.Prelude.{Bool, true, false, List, ℕ, replicate}
 use Rattle.saved_record.specs.declared.SavedRecord.{SavedRecord}
 use Rattle.saved_record.specs.SavedRecord.{no_record}
 use Rattle.state.specs.declared.Car.{Car}

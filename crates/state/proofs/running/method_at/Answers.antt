@@ -1,6 +1,5 @@
 -- A place below 8 has its method; past it there is one without an id.
 use borrow.Author.Tests.{lt-ltb, le-ltb}
-use borrow.Author.Rules.{rules}
 use Rattle.state.specs.Running.{method_at}
 use Rattle.state.proofs.running.method_at.Goals as goal
 
