@@ -1,4 +1,4 @@
-use Rattle.range.specs.Range.{core_fits, tries_fit, within}
+use Rattle.range.specs.Range.{core_fits, tries_fit}
 use Rattle.range.proofs.core_fits.Goals as goal
 
 pub returns-then-within : goal.returns-then-within

@@ -1,13 +1,11 @@
 use mathlib.Core.Path.{◌≡◌, refl, sym, ◌∙◌}
 use mathlib.Core.Bool.{true, false}
-use Prim.Native.Nat.{◌≤◌, ◌-◌}
 use native.Mathlib.Omega.{arith}
-use lib.ListN.{length, take, drop, get_or, length-take}
+use lib.ListN.{length, take, get_or, length-take}
 use lib.Seq.{get_or-take}
 use borrow.Author.Rules.{rules}
 use borrow.Author.Tests.{lt-ltb, le-ltb}
 use Rattle.arrays.proofs.Laws.{long_map}
-use Rattle.phones.specs.Ids.{all_of}
 use Rattle.range.specs.Range.{method_fits, all_fit, methods_in}
 use Rattle.state.specs.Running.{past_methods}
 use Rattle.range.proofs.Laws.{all_again, all_failed, all_end}

@@ -1,10 +1,8 @@
 use mathlib.Core.Path.{◌≡◌, refl}
 use mathlib.Core.Bool.{true, false}
-use Prim.Native.Nat.{◌≤◌, ◌-◌}
 use native.Mathlib.Omega.{arith}
-use lib.ListN.{length, drop, get_or}
+use lib.ListN.{get_or}
 use borrow.Author.Tests.{lt-ltb, le-ltb}
-use Rattle.phones.specs.Ids.{all_of}
 use Rattle.range.specs.Range.{within, printable}
 use Rattle.range.proofs.Laws.{all_again, all_failed, all_end}
 use Rattle.range.proofs.printable.Goals as goal

@@ -1,13 +1,9 @@
 -- The invariant: all bytes pass if those from i on do.
-use mathlib.Core.Path.{◌≡◌, refl}
-use mathlib.Core.Bool.{true, false}
+use mathlib.Core.Path.{◌≡◌}
 use Prim.Native.Nat.{◌≤◌, ◌-◌}
-use native.Mathlib.Omega.{arith}
-use lib.ListN.{length, drop, get_or}
-use borrow.Author.Tests.{lt-ltb, le-ltb}
+use lib.ListN.{length, drop}
 use Rattle.phones.specs.Ids.{all_of}
-use Rattle.range.specs.Range.{within, printable}
-use Rattle.range.proofs.Laws.{all_again, all_failed, all_end}
+use Rattle.range.specs.Range.{within}
 use Rattle.range.proofs.printable.Given as goal
 
 abbrev pub invariant-loop-i : goal.invariant-loop-i
