@@ -1,9 +1,7 @@
-use mathlib.Core.Path.{◌≡◌, sym, ◌∙◌}
-use Prim.Native.Nat.{◌-◌, ◌≤◌}
+use mathlib.Core.Path.{sym, ◌∙◌}
 use native.Mathlib.Omega.{arith}
-use lib.ListN.{length, drop}
 use borrow.Author.Tests.{eq-eqb, ne_eqb, lt-ltb, le-ltb}
-use Rattle.replay_digits.specs.Digits.{is_hex, all_digits}
+use Rattle.replay_digits.specs.Digits.{is_hex}
 use Rattle.replay_digits.proofs.Laws.{digits_turn, digits_end}
 use Rattle.replay_digits.proofs.is_hex.Goals as goal
 

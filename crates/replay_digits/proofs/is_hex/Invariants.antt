@@ -1,11 +1,8 @@
 -- The invariant: all are digits if all from i on are.
-use mathlib.Core.Path.{◌≡◌, sym, ◌∙◌}
+use mathlib.Core.Path.{◌≡◌}
 use Prim.Native.Nat.{◌-◌, ◌≤◌}
-use native.Mathlib.Omega.{arith}
 use lib.ListN.{length, drop}
-use borrow.Author.Tests.{eq-eqb, ne_eqb, lt-ltb, le-ltb}
 use Rattle.replay_digits.specs.Digits.{is_hex, all_digits}
-use Rattle.replay_digits.proofs.Laws.{digits_turn, digits_end}
 use Rattle.replay_digits.proofs.is_hex.Given as goal
 
 abbrev pub invariant-loop-i : goal.invariant-loop-i

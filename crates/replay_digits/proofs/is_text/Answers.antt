@@ -1,5 +1,4 @@
-use borrow.Author.Rules.{rules}
-use Rattle.replay_digits.proofs.Laws.{empty_text, text_first}
+use Rattle.replay_digits.proofs.Laws.{empty_text}
 use Rattle.replay_digits.proofs.is_text.Goals as goal
 
 pub returns-then-s-eq0 : goal.returns-then-s-eq0

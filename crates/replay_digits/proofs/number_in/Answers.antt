@@ -1,9 +1,9 @@
 use mathlib.Core.Path.{◌≡◌, sym, ◌∙◌}
-use Prim.Native.Nat.{◌+◌, ◌*◌, ◌-◌, ◌≤◌}
+use Prim.Native.Nat.{◌+◌, ◌*◌}
 use native.Mathlib.Omega.{arith}
-use lib.ListN.{length, drop, get_or}
+use lib.ListN.{get_or}
 use borrow.Author.Tests.{lt-ltb, le-ltb, le-leb, lt-leb}
-use Rattle.replay_digits.specs.Digits.{number_in, number_from, digit_of}
+use Rattle.replay_digits.specs.Digits.{digit_of}
 use Rattle.replay_digits.proofs.Laws.{number_none, number_some, number_turn, number_end, over, under}
 use Rattle.replay_digits.proofs.number_in.Goals as goal
 
