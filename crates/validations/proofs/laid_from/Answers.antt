@@ -1,14 +1,12 @@
 use mathlib.Core.Path.{◌≡◌}
-use mathlib.Core.List.{List, [], ◌∷◌, ◌++◌}
-use Prim.Native.Nat.{◌+◌, ◌≤◌, ◌-◌}
+use mathlib.Core.List.{[], ◌∷◌, ◌++◌}
 use native.Mathlib.Omega.{arith}
 use borrow.Author.Rules.{rules}
-use lib.ListN.{length, drop, get_or}
+use lib.ListN.{length, get_or}
 use Rattle.arrays.proofs.Laws.{long_map}
-use Rattle.saved_record.specs.SavedRecord.{CarIds}
 use Rattle.saved_record.specs.Store.{car_of}
-use Rattle.saved_record.proofs.Laws.{past_cars, used, used_clamped}
-use Rattle.validations.proofs.Laws.{next_car, no_car_lem, Gathered, gathered_none, gathered_more, gathered_all}
+use Rattle.saved_record.proofs.Laws.{past_cars, used_clamped}
+use Rattle.validations.proofs.Laws.{next_car, no_car_lem, gathered_none, gathered_more, gathered_all}
 use Rattle.validations.proofs.laid_from.Goals as goal
 
 pub loop-i-init : goal.loop-i-init

@@ -1,15 +1,11 @@
 -- The invariant: the cars from the first place up to i lie in the first k places.
 use mathlib.Core.Path.{◌≡◌}
-use mathlib.Core.List.{List, [], ◌∷◌, ◌++◌}
+use mathlib.Core.List.{List}
 use Prim.Native.Nat.{◌+◌, ◌≤◌, ◌-◌}
-use native.Mathlib.Omega.{arith}
-use borrow.Author.Rules.{rules}
-use lib.ListN.{length, drop, get_or}
-use Rattle.arrays.proofs.Laws.{long_map}
+use lib.ListN.{length, drop}
 use Rattle.saved_record.specs.SavedRecord.{CarIds}
-use Rattle.saved_record.specs.Store.{car_of}
-use Rattle.saved_record.proofs.Laws.{past_cars, used, used_clamped}
-use Rattle.validations.proofs.Laws.{next_car, no_car_lem, Gathered, gathered_none, gathered_more, gathered_all}
+use Rattle.saved_record.proofs.Laws.{used}
+use Rattle.validations.proofs.Laws.{Gathered}
 use Rattle.validations.proofs.laid_from.Given as goal
 
 abbrev pub invariant-loop-i : goal.invariant-loop-i

@@ -1,10 +1,9 @@
-use mathlib.Core.Path.{◌≡◌, refl, ap, ◌∙◌}
+use mathlib.Core.Path.{◌≡◌, refl}
 use mathlib.Core.List.{[]}
 use native.Mathlib.Omega.{arith}
 use borrow.Author.Rules.{rules}
 use lib.ListN.{length}
 use Rattle.arrays.proofs.Laws.{long_map}
-use Rattle.phones.specs.Phones.{phones_of}
 use Rattle.phones.proofs.Laws.{phones_of_list}
 use Rattle.validations.proofs.Laws.{cars_few, phones_at, no_phones}
 use Rattle.validations.proofs.phones_for.Goals as goal
