@@ -1,5 +1,5 @@
 -- What the policy tells: identity, approval, locks, reasons (can.rs, can_access.rs).
-use Rattle.std.specs.Prelude.{Bool, true, false, cond, not, ◌&&◌, ◌||◌, List, [], ℕ, ltb, get_or}
+use Rattle.std.specs.Prelude.{Bool, false, cond, not, ◌&&◌, ◌||◌, List, ℕ, ltb, get_or}
 use Rattle.arrays.specs.Arrays.{same_bytes}
 use Rattle.state.specs.declared.Car.{Car}
 use Rattle.state.specs.declared.Identity.{Identity}

@@ -1,5 +1,4 @@
 use Rattle.policy.specs.Policy.{approved_car}
-use borrow.Author.Rules.{rules}
 use Rattle.policy.proofs.approved_car.Goals as goal
 
 pub returns-then-a : goal.returns-then-a

@@ -1,5 +1,4 @@
 use Rattle.policy.specs.Policy.{approval_of}
-use borrow.Author.Rules.{rules}
 use Rattle.policy.proofs.can_read_write_approval.Goals as goal
 
 pub returns-then-same_bytes : goal.returns-then-same_bytes

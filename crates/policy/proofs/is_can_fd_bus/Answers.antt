@@ -1,6 +1,5 @@
 use borrow.Author.Tests.{lt-ltb, le-ltb}
 use Rattle.policy.specs.Policy.{is_fd_bus}
-use borrow.Author.Rules.{rules}
 use Rattle.policy.proofs.is_can_fd_bus.Goals as goal
 
 pub returns-then-bus-lt4 : goal.returns-then-bus-lt4

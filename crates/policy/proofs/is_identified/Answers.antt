@@ -1,5 +1,4 @@
 use Rattle.policy.specs.Policy.{is_identified}
-use borrow.Author.Rules.{rules}
 use Rattle.policy.proofs.is_identified.Goals as goal
 
 pub returns-then-is_car_fingerprint_confirmed : goal.returns-then-is_car_fingerprint_confirmed
