@@ -9,10 +9,8 @@ pub number_in-requires : goal.number_in-requires
 unfolding id_in
 number_in-requires c = search rules
 
-pub enum_known-n : goal.enum_known-n
-unfolding id_in
-enum_known-n c = search rules
+pub overflow_cast-result : goal.overflow_cast-result
+overflow_cast-result c = omega (arith, number_most 16 4294967295 c.in-Given.n c.args.digits.now (sym c.number_in.ensures ∙ c.in-Given.is))
 
-pub enum_told-1 : goal.enum_told-1
-unfolding id_in
-enum_told-1 c = search rules
+pub overflow_cast-result-then-same_bytes-2 : goal.overflow_cast-result-then-same_bytes-2
+overflow_cast-result-then-same_bytes-2 c = omega (arith, number_most 16 4294967295 c.in-Given.n c.args.digits.now (sym c.number_in.ensures ∙ c.in-Given.is))

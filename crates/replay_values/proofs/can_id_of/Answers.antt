@@ -1,4 +1,3 @@
-use borrow.Author.Rules.{rules}
 use Rattle.replay_values.proofs.Laws.{id_first}
 use Rattle.replay_values.proofs.can_id_of.Goals as goal
 

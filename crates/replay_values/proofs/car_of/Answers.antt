@@ -1,4 +1,3 @@
-use borrow.Author.Rules.{rules}
 use Rattle.replay_values.proofs.Laws.{car_first}
 use Rattle.replay_values.proofs.car_of.Goals as goal
 

@@ -1,4 +1,3 @@
-use borrow.Author.Rules.{rules}
 use Rattle.replay_values.proofs.Laws.{data_first}
 use Rattle.replay_values.proofs.data_of.Goals as goal
 

@@ -1,4 +1,3 @@
-use borrow.Author.Rules.{rules}
 use Rattle.replay_values.specs.Values.{flag_in}
 use Rattle.replay_values.proofs.flag_in.Goals as goal
 

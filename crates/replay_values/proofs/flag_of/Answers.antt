@@ -1,4 +1,3 @@
-use borrow.Author.Rules.{rules}
 use Rattle.replay_values.proofs.Laws.{flag_first}
 use Rattle.replay_values.proofs.flag_of.Goals as goal
 

@@ -1,4 +1,3 @@
-use borrow.Author.Rules.{rules}
 use Rattle.replay_values.proofs.Laws.{number_first}
 use Rattle.replay_values.proofs.number_of.Goals as goal
 
