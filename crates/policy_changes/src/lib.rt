@@ -42,6 +42,7 @@ pub fn policy_changed(core: Core, answer: Answer, policy: Policy) -> Said
 }
 
 // note_relock: the count wraps.
+#[tactic(auto, unfolding(crate::specs::Changes::relocked))]
 pub fn relocked(p: Probe) -> Probe
     ensures { result ≡ Changes.relocked p }
 {
