@@ -1,12 +1,11 @@
 use mathlib.Core.Path.{◌≡◌, refl, sym, ◌∙◌}
-use Prim.Native.Nat.{◌≤◌, ◌-◌}
 use native.Mathlib.Omega.{arith}
 use borrow.Author.Rules.{rules}
-use lib.ListN.{length, drop}
+use lib.ListN.{length}
 use Rattle.arrays.proofs.Laws.{long_map}
-use Rattle.saved_record.proofs.Laws.{used, used_clamped}
+use Rattle.saved_record.proofs.Laws.{used_clamped}
 use Rattle.forget_validations.proofs.Laws.{some_again, some_found, some_end}
-use Rattle.phones.specs.Ids.{some_of, contains}
+use Rattle.phones.specs.Ids.{contains}
 use Rattle.saved_record.specs.SavedRecord.{CarIds}
 use Rattle.saved_record.specs.Store.{car_of}
 use Rattle.forget_validations.proofs.lists_phone.Goals as goal

@@ -1,15 +1,10 @@
 -- The invariant: none of the first i cars passes the test.
-use mathlib.Core.Path.{◌≡◌, refl, sym, ◌∙◌}
+use mathlib.Core.Path.{◌≡◌}
 use Prim.Native.Nat.{◌≤◌, ◌-◌}
-use native.Mathlib.Omega.{arith}
-use borrow.Author.Rules.{rules}
 use lib.ListN.{length, drop}
-use Rattle.arrays.proofs.Laws.{long_map}
-use Rattle.saved_record.proofs.Laws.{used, used_clamped}
-use Rattle.forget_validations.proofs.Laws.{some_again, some_found, some_end}
+use Rattle.saved_record.proofs.Laws.{used}
 use Rattle.phones.specs.Ids.{some_of, contains}
 use Rattle.saved_record.specs.SavedRecord.{CarIds}
-use Rattle.saved_record.specs.Store.{car_of}
 use Rattle.forget_validations.proofs.lists_phone.Given as goal
 
 abbrev pub invariant-loop-i : goal.invariant-loop-i

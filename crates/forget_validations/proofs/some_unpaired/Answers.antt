@@ -1,12 +1,10 @@
 use mathlib.Core.Path.{◌≡◌, refl, sym, ◌∙◌}
-use Prim.Native.Nat.{◌≤◌, ◌-◌}
 use native.Mathlib.Omega.{arith}
 use borrow.Author.Rules.{rules}
-use lib.ListN.{length, drop}
+use lib.ListN.{length}
 use Rattle.arrays.proofs.Laws.{long_map}
-use Rattle.saved_record.proofs.Laws.{used, used_clamped}
+use Rattle.saved_record.proofs.Laws.{used_clamped}
 use Rattle.forget_validations.proofs.Laws.{some_again, some_found, some_end}
-use Rattle.phones.specs.Ids.{some_of}
 use Rattle.phones.specs.Phones.{phones_of}
 use Rattle.validations.specs.Store.{loses_some}
 use Rattle.forget_validations.proofs.some_unpaired.Goals as goal

@@ -1,12 +1,8 @@
 -- The invariant: none of the first i cars passes the test.
-use mathlib.Core.Path.{◌≡◌, refl, sym, ◌∙◌}
+use mathlib.Core.Path.{◌≡◌}
 use Prim.Native.Nat.{◌≤◌, ◌-◌}
-use native.Mathlib.Omega.{arith}
-use borrow.Author.Rules.{rules}
 use lib.ListN.{length, drop}
-use Rattle.arrays.proofs.Laws.{long_map}
-use Rattle.saved_record.proofs.Laws.{used, used_clamped}
-use Rattle.forget_validations.proofs.Laws.{some_again, some_found, some_end}
+use Rattle.saved_record.proofs.Laws.{used}
 use Rattle.phones.specs.Ids.{some_of}
 use Rattle.phones.specs.Phones.{phones_of}
 use Rattle.validations.specs.Store.{loses_some}

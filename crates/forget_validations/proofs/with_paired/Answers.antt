@@ -1,16 +1,14 @@
 use mathlib.Core.Path.{◌≡◌}
-use mathlib.Core.List.{List, [], ◌∷◌, ◌++◌}
-use Prim.Native.Nat.{◌≤◌, ◌-◌}
+use mathlib.Core.List.{[], ◌∷◌, ◌++◌}
 use native.Mathlib.Omega.{arith}
 use borrow.Author.Rules.{rules}
-use lib.ListN.{length, drop, get_or}
+use lib.ListN.{length, get_or}
 use Rattle.arrays.proofs.Laws.{long_map}
 use Rattle.phones.specs.Phones.{phones_of}
-use Rattle.saved_record.specs.SavedRecord.{CarIds}
 use Rattle.saved_record.specs.Store.{car_of}
-use Rattle.saved_record.proofs.Laws.{past_cars, used, used_clamped}
+use Rattle.saved_record.proofs.Laws.{past_cars, used_clamped}
 use Rattle.validations.specs.Store.{with_phones, with_some, under_every}
-use Rattle.validations.proofs.Laws.{no_car_lem, Gathered, gathered_none, gathered_all}
+use Rattle.validations.proofs.Laws.{no_car_lem, gathered_none, gathered_all}
 use Rattle.forget_validations.proofs.Laws.{every_some, every_none}
 use Rattle.phones.specs.Ids.{retain_in}
 use Rattle.forget_validations.proofs.with_paired.Goals as goal

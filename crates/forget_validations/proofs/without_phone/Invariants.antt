@@ -1,18 +1,12 @@
 -- The invariant: what is left of the first i cars lies in the first k places.
 use mathlib.Core.Path.{◌≡◌}
-use mathlib.Core.List.{List, [], ◌∷◌, ◌++◌}
+use mathlib.Core.List.{List}
 use Prim.Native.Nat.{◌≤◌, ◌-◌}
-use native.Mathlib.Omega.{arith}
-use borrow.Author.Rules.{rules}
-use lib.ListN.{length, drop, get_or}
-use Rattle.arrays.proofs.Laws.{long_map}
-use Rattle.phones.specs.Phones.{phones_of}
+use lib.ListN.{length, drop}
 use Rattle.saved_record.specs.SavedRecord.{CarIds}
-use Rattle.saved_record.specs.Store.{car_of}
-use Rattle.saved_record.proofs.Laws.{past_cars, used, used_clamped}
-use Rattle.validations.specs.Store.{with_phones, with_some, under_every}
-use Rattle.validations.proofs.Laws.{no_car_lem, Gathered, gathered_none, gathered_all}
-use Rattle.forget_validations.proofs.Laws.{every_some, every_none}
+use Rattle.saved_record.proofs.Laws.{used}
+use Rattle.validations.specs.Store.{under_every}
+use Rattle.validations.proofs.Laws.{Gathered}
 use Rattle.phones.specs.Ids.{remove_all}
 use Rattle.forget_validations.proofs.without_phone.Given as goal
 
