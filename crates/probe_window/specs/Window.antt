@@ -1,9 +1,8 @@
 -- The receive marks and the probe window (can_probe.rs).
-use Rattle.std.specs.Prelude.{Bool, true, false, cond, not, ◌&&◌, ◌||◌, List, [], ◌∷◌, ℕ, suc, ◌-◌, eqb, ltb, leb}
+use Rattle.std.specs.Prelude.{Bool, true, false, cond, not, ◌&&◌, List, [], ◌∷◌, ℕ, suc, ◌-◌, eqb, ltb, leb}
 use lib.ListN.{get_or, replicate, take, set}
 use Rattle.arrays.specs.Arrays.{padded}
-use Rattle.frames.specs.declared.Id.{Id}
-use Rattle.frames.specs.declared.Id.TheVariants.{Standard, Extended}
+use Rattle.frames.specs.declared.Id.TheVariants.{Standard}
 use Rattle.frames.specs.declared.CanFrame.{CanFrame}
 use Rattle.frames.specs.declared.ProbeFrame.{ProbeFrame}
 use Rattle.frames.specs.Frames.{can_id_in_range, is_entry, bus_exists}

@@ -1,6 +1,5 @@
 use mathlib.Core.Path.{◌≡◌, refl}
-use Prim.Native.Nat.{◌≤◌, ◌-◌}
-use lib.ListN.{length, take, length-set}
+use lib.ListN.{length, length-set}
 use Rattle.arrays.specs.Arrays.{padded}
 use Rattle.probe_window.specs.Window.{no_frame}
 use Rattle.arrays.proofs.Laws.{copy_step, copy_end, long_map}

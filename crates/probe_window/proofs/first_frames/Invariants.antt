@@ -1,12 +1,9 @@
 -- The invariant: the first i frames are there, then empty ones.
-use mathlib.Core.Path.{◌≡◌, refl}
+use mathlib.Core.Path.{◌≡◌}
 use Prim.Native.Nat.{◌≤◌, ◌-◌}
-use lib.ListN.{length, take, length-set}
+use lib.ListN.{length, take}
 use Rattle.arrays.specs.Arrays.{padded}
 use Rattle.probe_window.specs.Window.{no_frame}
-use Rattle.arrays.proofs.Laws.{copy_step, copy_end, long_map}
-use borrow.Author.Rules.{rules}
-use native.Mathlib.Omega.{arith}
 use Rattle.probe_window.proofs.first_frames.Given as goal
 
 abbrev pub invariant-loop-i : goal.invariant-loop-i

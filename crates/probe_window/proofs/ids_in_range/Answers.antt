@@ -1,7 +1,5 @@
 use mathlib.Core.Path.{◌≡◌, refl, sym, ◌∙◌}
-use Prim.Native.Nat.{◌≤◌, ◌-◌}
-use lib.ListN.{length, take, drop, length-take}
-use Rattle.probe_window.specs.Window.{ids_in_range}
+use lib.ListN.{length, take, length-take}
 use Rattle.arrays.proofs.Laws.{long_map}
 use Rattle.probe_window.proofs.Laws.{ids_again, ids_failed, ids_end}
 use borrow.Author.Rules.{rules}

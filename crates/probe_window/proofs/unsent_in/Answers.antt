@@ -1,7 +1,6 @@
 use mathlib.Core.Path.{◌≡◌, refl, sym, ◌∙◌}
-use Prim.Native.Nat.{◌≤◌, ◌-◌}
-use lib.ListN.{length, take, drop, length-take}
-use Rattle.probe_window.specs.Window.{first_unsent, unsent_in}
+use lib.ListN.{length, take, length-take}
+use Rattle.probe_window.specs.Window.{unsent_in}
 use Rattle.arrays.proofs.Laws.{long_map}
 use Rattle.probe_window.proofs.Laws.{unsent_again, unsent_found, unsent_end}
 use borrow.Author.Rules.{rules}

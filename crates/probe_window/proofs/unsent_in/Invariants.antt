@@ -1,12 +1,8 @@
 -- The invariant: the first entry not sent is the first from i on.
-use mathlib.Core.Path.{◌≡◌, refl, sym, ◌∙◌}
+use mathlib.Core.Path.{◌≡◌}
 use Prim.Native.Nat.{◌≤◌, ◌-◌}
-use lib.ListN.{length, take, drop, length-take}
-use Rattle.probe_window.specs.Window.{first_unsent, unsent_in}
-use Rattle.arrays.proofs.Laws.{long_map}
-use Rattle.probe_window.proofs.Laws.{unsent_again, unsent_found, unsent_end}
-use borrow.Author.Rules.{rules}
-use native.Mathlib.Omega.{arith}
+use lib.ListN.{length, take, drop}
+use Rattle.probe_window.specs.Window.{first_unsent}
 use Rattle.probe_window.proofs.unsent_in.Given as goal
 
 abbrev pub invariant-loop-i : goal.invariant-loop-i
