@@ -1,11 +1,10 @@
 -- What a session shows, and its ends (validation.rs).
-use Rattle.std.specs.Prelude.{Bool, true, false, cond, not, ◌&&◌, ◌||◌, List, [], ◌∷◌, ℕ, suc, ltb, get_or, take}
+use Rattle.std.specs.Prelude.{Bool, false, cond, not, ◌&&◌, ◌||◌, List, [], ◌∷◌, ℕ, suc, ltb, get_or, take}
 use Rattle.arrays.specs.Arrays.{same_bytes}
 use Rattle.session_times.specs.Times.{seconds_to}
 use Rattle.phones.specs.Phones.{id_bytes}
-use Rattle.state.specs.declared.Kind.{Kind}
 use Rattle.state.specs.declared.Status.{Status}
-use Rattle.state.specs.declared.Status.TheVariants.{InProgress, Succeeded, Failed, Cancelled, TimedOut}
+use Rattle.state.specs.declared.Status.TheVariants.{Cancelled, TimedOut}
 use Rattle.state.specs.declared.Method.{Method}
 use Rattle.state.specs.declared.Methods.{Methods}
 use Rattle.state.specs.declared.Session.{Session}

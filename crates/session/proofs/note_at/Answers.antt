@@ -1,4 +1,3 @@
-use borrow.Author.Rules.{rules}
 use Rattle.session.specs.Session.{note_at}
 use borrow.Author.Tests.{lt-ltb, le-ltb}
 use Rattle.session.proofs.note_at.Goals as goal

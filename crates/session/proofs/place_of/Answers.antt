@@ -1,10 +1,8 @@
 use borrow.Author.Rules.{rules}
 use mathlib.Core.Path.{◌≡◌, refl, sym, ◌∙◌}
-use Prim.Native.Nat.{◌≤◌, ◌-◌}
 use native.Mathlib.Omega.{arith}
-use lib.ListN.{length, take, drop}
+use lib.ListN.{length}
 use Rattle.arrays.proofs.Laws.{long_map}
-use Rattle.session.specs.Session.{place_from}
 use Rattle.session.proofs.Laws.{place_again, place_found, place_end, place_used}
 use Rattle.session.proofs.place_of.Goals as goal
 

@@ -1,12 +1,8 @@
 -- The invariant: the place is the one found from i on.
-use borrow.Author.Rules.{rules}
-use mathlib.Core.Path.{◌≡◌, refl, sym, ◌∙◌}
+use mathlib.Core.Path.{◌≡◌}
 use Prim.Native.Nat.{◌≤◌, ◌-◌}
-use native.Mathlib.Omega.{arith}
 use lib.ListN.{length, take, drop}
-use Rattle.arrays.proofs.Laws.{long_map}
 use Rattle.session.specs.Session.{place_from}
-use Rattle.session.proofs.Laws.{place_again, place_found, place_end, place_used}
 use Rattle.session.proofs.place_of.Given as goal
 
 abbrev pub invariant-loop-i : goal.invariant-loop-i
