@@ -1,5 +1,4 @@
 use native.Mathlib.Omega.{arith}
-use borrow.Author.Rules.{rules}
 use Rattle.add_validation.proofs.Laws.{last_put}
 use Rattle.add_validation.proofs.put_last.Goals as goal
 
