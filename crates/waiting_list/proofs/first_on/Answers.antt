@@ -1,10 +1,9 @@
 use mathlib.Core.Path.{◌≡◌, sym, ap, ◌∙◌}
-use Prim.Native.Nat.{min, ◌+◌, ◌-◌, ◌≤◌}
 use native.Mathlib.Omega.{arith}
 use lib.Dec.{eqb}
-use lib.ListN.{length, drop}
+use lib.ListN.{length}
 use Rattle.waiting_list.specs.declared.Waiting.{Waiting}
-use Rattle.waiting_list.specs.Queue.{waiting_of, bus_of, oldest_on}
+use Rattle.waiting_list.specs.Queue.{waiting_of, bus_of}
 use Rattle.waiting_list.proofs.Oldest.{waiting_length, waiting_at_lem, oldest_again, oldest_found, oldest_end}
 use Rattle.waiting_list.proofs.first_on.Goals as goal
 

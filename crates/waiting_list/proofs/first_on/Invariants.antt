@@ -1,12 +1,8 @@
 -- The invariant: none of the first i records is on the bus.
-use mathlib.Core.Path.{◌≡◌, sym, ap, ◌∙◌}
+use mathlib.Core.Path.{◌≡◌}
 use Prim.Native.Nat.{min, ◌+◌, ◌-◌, ◌≤◌}
-use native.Mathlib.Omega.{arith}
-use lib.Dec.{eqb}
 use lib.ListN.{length, drop}
-use Rattle.waiting_list.specs.declared.Waiting.{Waiting}
-use Rattle.waiting_list.specs.Queue.{waiting_of, bus_of, oldest_on}
-use Rattle.waiting_list.proofs.Oldest.{waiting_length, waiting_at_lem, oldest_again, oldest_found, oldest_end}
+use Rattle.waiting_list.specs.Queue.{waiting_of, oldest_on}
 use Rattle.waiting_list.proofs.first_on.Given as goal
 
 abbrev pub invariant-loop-i : goal.invariant-loop-i

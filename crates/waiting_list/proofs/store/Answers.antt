@@ -1,5 +1,5 @@
 use Rattle.std.proofs.Common.{◌≡◌, ◌∙◌, ap, arith, length, set, List}
-use Rattle.slices.specs.Copied.{over, over_one, over_all, over_len}
+use Rattle.slices.specs.Copied.{over, over_one, over_all}
 use Rattle.waiting_list.specs.declared.Waiting.{Waiting}
 use Rattle.waiting_list.specs.Queue.{blank, record_at}
 use Rattle.waiting_list.proofs.store.Goals as goal

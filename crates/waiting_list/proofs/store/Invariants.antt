@@ -1,5 +1,5 @@
 -- The invariant: the first i records are those of the other list.
-use Rattle.std.proofs.Common.{◌-◌, ◌≡◌, ◌≤◌, length}
+use Rattle.std.proofs.Common.{◌-◌, ◌≡◌, ◌≤◌}
 use Rattle.slices.specs.Copied.{over}
 use Rattle.waiting_list.proofs.store.Given as goal
 
