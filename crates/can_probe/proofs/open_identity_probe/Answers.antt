@@ -1,6 +1,5 @@
 use Rattle.state.specs.Checks.{checked}
 use Rattle.can_probe.specs.Calls.{open_probe}
-use borrow.Author.Rules.{rules}
 use borrow.Author.Tests.{lt-leb, le-leb}
 use Rattle.can_probe.proofs.open_identity_probe.Goals as goal
 
