@@ -1,5 +1,5 @@
 -- A save of the record while phones change (02, W-209).
-use Rattle.std.specs.Prelude.{Bool, true, false, cond, not, List, [], ◌∷◌, ℕ, ◌+◌, ◌-◌, min, eqb, length, take, drop}
+use Rattle.std.specs.Prelude.{true, false, cond, not, List, [], ◌∷◌, ℕ, ◌+◌, min, eqb, length, take, drop}
 use Rattle.arrays.specs.Arrays.{put}
 use Rattle.phones.specs.Ids.{Left, stays, becomes}
 use Rattle.saved_record.specs.SavedRecord.{CarIds, no_record}

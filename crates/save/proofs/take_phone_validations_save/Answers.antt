@@ -2,7 +2,6 @@ use mathlib.Core.Path.{◌≡◌, refl}
 use native.Mathlib.Omega.{arith}
 use borrow.Author.Rules.{rules}
 use lib.ListN.{length}
-use Rattle.save.specs.Save.{rest}
 use Rattle.save.proofs.Laws.{rest_length, take_some, take_all, take_none}
 use Rattle.save.proofs.take_phone_validations_save.Goals as goal
 
