@@ -11,7 +11,6 @@ use Rattle.state.specs.declared.Session.{Session}
 use Rattle.state.specs.declared.Validation.{Validation}
 use Rattle.state.specs.declared.Core.{Core}
 use Rattle.state.specs.declared.Answer.{Answer}
-use Rattle.state.specs.declared.Answer.TheVariants as Answer
 use Rattle.state.specs.declared.Answer.TheVariants.{Done, Yes, No, UnknownMethod, CarNotIdentified, CoolingDown, OtherPhoneSession, MethodUnavailable, MethodNotAvailableNow, NoRandomSource, NoSession, NotCodeEntry, WrongCode, IdTooLong, RandomSpent, NotText, ListFull}
 use Rattle.state.specs.declared.Challenge.{Challenge}
 use Rattle.state.specs.declared.Mark.{Mark}
