@@ -7,7 +7,6 @@ use Rattle.frames.specs.declared.TxClass.TheVariants.{Platform, Command}
 use Rattle.frames.specs.Frames.{can_id_in_range}
 use Rattle.state.specs.declared.Core.{Core}
 use Rattle.state.specs.declared.Answer.{Answer}
-use Rattle.state.specs.declared.Answer.TheVariants as Answer
 use Rattle.state.specs.declared.Said.{Said}
 use Rattle.state.specs.Parts.{with_probe, with_window}
 use Rattle.state.specs.Replies.{quiet}

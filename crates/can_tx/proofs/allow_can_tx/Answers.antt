@@ -1,5 +1,4 @@
 use Rattle.can_tx.proofs.Laws.{decided_so}
-use borrow.Author.Rules.{rules}
 use Rattle.can_tx.proofs.allow_can_tx.Goals as goal
 
 pub returns : goal.returns

@@ -1,5 +1,4 @@
 use Rattle.can_tx.specs.Verdict.{platform_verdict}
-use borrow.Author.Rules.{rules}
 use Rattle.can_tx.proofs.allow_platform.Goals as goal
 
 pub returns-then-is_can_bus_read_only : goal.returns-then-is_can_bus_read_only

@@ -1,5 +1,4 @@
 use Rattle.can_tx.specs.Verdict.{verdict}
-use borrow.Author.Rules.{rules}
 use Rattle.can_tx.proofs.decide_can_tx.Goals as goal
 
 pub returns : goal.returns

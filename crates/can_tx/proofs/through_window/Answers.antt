@@ -1,5 +1,4 @@
 use Rattle.can_tx.specs.Verdict.{window_verdict}
-use borrow.Author.Rules.{rules}
 use Rattle.can_tx.proofs.through_window.Goals as goal
 
 pub returns-then-reaches_window : goal.returns-then-reaches_window
