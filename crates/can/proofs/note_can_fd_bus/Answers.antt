@@ -1,6 +1,5 @@
 use Rattle.can.specs.Can.{note_fd_bus}
 use borrow.Author.Tests.{lt-ltb, le-ltb}
-use borrow.Author.Rules.{rules}
 use Rattle.can.proofs.note_can_fd_bus.Goals as goal
 
 pub returns-then-bus-lt4 : goal.returns-then-bus-lt4
