@@ -4,7 +4,6 @@ use native.Mathlib.Omega.{arith}
 use borrow.Author.Tests.{le-leb}
 use borrow.Author.Tests.{lt-leb}
 use Rattle.log_entries.specs.Entries.{fits}
-use borrow.Author.Rules.{rules}
 use Rattle.log_entries.proofs.is_fit.Goals as goal
 
 pub returns-then-seen-sent : goal.returns-then-seen-sent
