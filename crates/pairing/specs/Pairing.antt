@@ -1,5 +1,5 @@
 -- The calls on the pairings and the connected phone (pairing.rs, phone_trust.rs).
-use Rattle.std.specs.Prelude.{Bool, false, cond, List, [], ◌∷◌, ℕ, eqb, ltb, length}
+use Rattle.std.specs.Prelude.{false, cond, List, [], ◌∷◌, ℕ, eqb, ltb, length}
 use Rattle.arrays.specs.Arrays.{same_bytes}
 use Rattle.phones.specs.Ids.{contains, remove_first, Left, stays, becomes, pushed}
 use Rattle.phones.specs.Phones.{id_bytes, id_of}
