@@ -1,12 +1,9 @@
 -- The invariant: what is left to do is to give entries to the frames from i on, with the marks as they are. Assumes nothing.
 use mathlib.Core.Path.{◌≡◌}
-use mathlib.Core.Bool.{false}
 use Prim.Native.Nat.{◌≤◌, ◌-◌}
-use native.Mathlib.Omega.{arith}
-use borrow.Author.Rules.{rules}
-use lib.ListN.{length, length-set, length-replicate}
+use lib.ListN.{length}
 use Rattle.matcher.specs.Match.{entries_of}
-use Rattle.matcher.proofs.Steps.{long_map, Turn, turn_first, turn_place, turn_stops, turn_again, turns_end}
+use Rattle.matcher.proofs.Steps.{Turn}
 use Rattle.matcher.proofs.assign.Given as goal
 
 abbrev pub invariant-loop-i : goal.invariant-loop-i

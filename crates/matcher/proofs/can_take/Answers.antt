@@ -1,6 +1,5 @@
 -- An entry that is taken fits nobody. Assumes nothing.
 use Rattle.log_entries.specs.Entries.{fits}
-use borrow.Author.Rules.{rules}
 use Rattle.matcher.proofs.can_take.Goals as goal
 
 pub returns : goal.returns

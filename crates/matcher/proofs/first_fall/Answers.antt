@@ -1,8 +1,6 @@
-use mathlib.Core.Path.{◌≡◌, refl}
-use Prim.Native.Nat.{suc, ◌≤◌, ◌-◌}
+use mathlib.Core.Path.{refl}
 use native.Mathlib.Omega.{arith}
-use lib.ListN.{length, drop}
-use Rattle.matcher.specs.Match.{fall_from, first_fall}
+use Rattle.matcher.specs.Match.{first_fall}
 use Rattle.matcher.proofs.Steps.{fall_found, fall_again, fall_end}
 use Rattle.matcher.proofs.first_fall.Goals as goal
 

@@ -1,10 +1,8 @@
 -- The invariant: the first fall is the first one from `line` on, with the time before it at hand. Assumes nothing.
-use mathlib.Core.Path.{◌≡◌, refl}
+use mathlib.Core.Path.{◌≡◌}
 use Prim.Native.Nat.{suc, ◌≤◌, ◌-◌}
-use native.Mathlib.Omega.{arith}
 use lib.ListN.{length, drop}
 use Rattle.matcher.specs.Match.{fall_from, first_fall}
-use Rattle.matcher.proofs.Steps.{fall_found, fall_again, fall_end}
 use Rattle.matcher.proofs.first_fall.Given as goal
 
 abbrev pub invariant-loop-line : goal.invariant-loop-line

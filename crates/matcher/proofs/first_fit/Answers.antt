@@ -1,12 +1,9 @@
 use mathlib.Core.Path.{◌≡◌}
-use Prim.Native.Nat.{◌≤◌, ◌-◌}
 use native.Mathlib.Omega.{arith}
 use borrow.Author.Rules.{rules}
 use lib.ListN.{length}
 use Rattle.log_entries.specs.Entries.{entry}
-use Rattle.matcher.specs.Match.{entries_of}
-use Rattle.matcher.specs.Greedy.{free_in}
-use Rattle.matcher.proofs.Steps.{long_map, Left, left_first, left_again, left_found, left_end}
+use Rattle.matcher.proofs.Steps.{long_map, left_first, left_again, left_found, left_end}
 use Rattle.matcher.proofs.first_fit.Goals as goal
 
 pub loop-i-init : goal.loop-i-init

@@ -1,13 +1,11 @@
 -- The invariant: the first place is the first one from i on. Assumes nothing.
 use mathlib.Core.Path.{◌≡◌}
 use Prim.Native.Nat.{◌≤◌, ◌-◌}
-use native.Mathlib.Omega.{arith}
-use borrow.Author.Rules.{rules}
 use lib.ListN.{length}
 use Rattle.log_entries.specs.Entries.{entry}
 use Rattle.matcher.specs.Match.{entries_of}
 use Rattle.matcher.specs.Greedy.{free_in}
-use Rattle.matcher.proofs.Steps.{long_map, Left, left_first, left_again, left_found, left_end}
+use Rattle.matcher.proofs.Steps.{Left}
 use Rattle.matcher.proofs.first_fit.Given as goal
 
 abbrev pub invariant-loop-i : goal.invariant-loop-i

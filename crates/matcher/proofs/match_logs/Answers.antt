@@ -3,7 +3,6 @@ use mathlib.Core.Path.{sym, ◌∙◌}
 use Rattle.matcher.proofs.Steps.{sized, rising_entries}
 use Rattle.matcher.proofs.Right.{greedy_right}
 use Rattle.matcher.specs.Match.{match_of}
-use borrow.Author.Rules.{rules}
 use Rattle.matcher.proofs.match_logs.Goals as goal
 
 pub returns-then-is_wrong_size : goal.returns-then-is_wrong_size
@@ -17,6 +16,23 @@ returns-then-is_wrong_size-2 c = rw (← c.is_wrong_size.ensures, c.if-is_wrong_
 pub assign-requires : goal.assign-requires
 assign-requires c =
     let a = c.args in
-    let sj = sized a.journal a.journal-times.now (sym c.is_wrong_size.ensures ∙ c.if-is_wrong_size.false) in
-    let sr = sized a.recorder a.recorder-times.now (sym c.is_wrong_size-2.ensures ∙ c.if-is_wrong_size-2.false) in
+    let sj = sized a.journal a.journal_times.now (sym c.is_wrong_size.ensures ∙ c.if-is_wrong_size.false) in
+    let sr = sized a.recorder a.recorder_times.now (sym c.is_wrong_size-2.ensures ∙ c.if-is_wrong_size-2.false) in
     (sj, sr)
+
+pub returns-in-Nothing-seen : goal.returns-in-Nothing-seen
+unfolding match_of
+returns-in-Nothing-seen c =
+    let a = c.args in
+    let up = rising_entries a.journal a.journal_times.now (sym c.first_fall-sent.ensures ∙ c.in-Nothing.is) in
+    let on = rising_entries a.recorder a.recorder_times.now (sym c.first_fall-seen.ensures ∙ c.in-Nothing-seen.is) in
+    rw (
+      ← c.is_wrong_size.ensures,
+      c.if-is_wrong_size.false,
+      ← c.is_wrong_size-2.ensures,
+      c.if-is_wrong_size-2.false,
+      ← c.first_fall-sent.ensures,
+      c.in-Nothing.is,
+      ← c.first_fall-seen.ensures,
+      c.in-Nothing-seen.is,
+    ) (c.assign.ensures ∙ greedy_right _ _ up on)
