@@ -74,7 +74,6 @@ fn put_accepted(saved: &[u8], cars: usize, two: bool, out: &mut [u8]) -> Convert
 }
 
 // Judges a record as restore does, and lays it down in `out` as version 2, or as version 1. A refusal leaves `out` as it is.
-#[tactic(auto, unfolding(crate::specs::Convert::refusal))]
 pub fn convert_phone_validations(saved: &[u8], two: bool, out: &mut [u8]) -> Converted
     ensures { outcome_of result out.new ≡ converted saved.now two out.old }
 {

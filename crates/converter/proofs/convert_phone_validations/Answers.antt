@@ -1,29 +1,28 @@
 -- By restore's verdict.
-use mathlib.Core.Path.{◌≡◌}
-use Prim.Native.Nat.{ℕ}
-use native.Mathlib.Omega.{arith}
-use borrow.Author.Rules.{rules}
 use Rattle.saved_record.specs.declared.RecordVerdict.TheVariants.{Malformed, CarTwice, TooLarge}
 use Rattle.converter.specs.Convert.{refusal}
 use Rattle.converter.proofs.Laws.{accepted, refused_as}
 use Rattle.converter.proofs.convert_phone_validations.Goals as goal
 
-pub enum_told-1 : goal.enum_told-1
-unfolding refusal
-enum_told-1 c = search rules
+pub put_accepted-requires : goal.put_accepted-requires
+put_accepted-requires c =
+    let d = c.decode_phone_validations-read in
+    accepted c.args.saved.now d.result d.ensures c.in-Restored.is
 
-pub enum_told-in-Malformed : goal.enum_told-in-Malformed
+pub returns-in-Malformed : goal.returns-in-Malformed
 unfolding refusal
-enum_told-in-Malformed c = search rules
+returns-in-Malformed c =
+    let d = c.decode_phone_validations-read in
+    rw (c.refused.ensures, refused_as c.args.saved.now d.result c.args.two c.args.out.now Malformed d.ensures c.in-Malformed.is (λ e. cc))
 
-pub enum_told-in-CarTwice : goal.enum_told-in-CarTwice
+pub returns-in-CarTwice : goal.returns-in-CarTwice
 unfolding refusal
-enum_told-in-CarTwice c = search rules
+returns-in-CarTwice c =
+    let d = c.decode_phone_validations-read in
+    rw (c.refused-in-CarTwice.ensures, refused_as c.args.saved.now d.result c.args.two c.args.out.now CarTwice d.ensures c.in-CarTwice.is (λ e. cc))
 
-pub enum_told-in-TooLarge : goal.enum_told-in-TooLarge
+pub returns-in-TooLarge : goal.returns-in-TooLarge
 unfolding refusal
-enum_told-in-TooLarge c = search rules
-
-pub returns-in-Restored : goal.returns-in-Restored
-unfolding refusal
-returns-in-Restored c = search rules
+returns-in-TooLarge c =
+    let d = c.decode_phone_validations-read in
+    rw (c.refused-in-TooLarge.ensures, refused_as c.args.saved.now d.result c.args.two c.args.out.now TooLarge d.ensures c.in-TooLarge.is (λ e. cc))

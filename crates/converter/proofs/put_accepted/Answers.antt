@@ -1,20 +1,16 @@
 -- The body is the record's own after its head, of one byte or of two.
 use native.Mathlib.Omega.{arith}
-use borrow.Author.Rules.{rules}
 use Rattle.converter.specs.Convert.{refusal}
-use Rattle.converter.proofs.Laws.{Sizes, sizes, one_as_two, two_as_two, one_as_one, two_as_one, many_cars_lem}
+use Rattle.converter.proofs.Laws.{sizes, one_as_two, two_as_two, one_as_one, two_as_one, many_cars_lem}
 use Rattle.converter.proofs.put_accepted.Goals as goal
-
-sized : (s : tie.Start) → Sizes s.args.saved.now
-sized s = sizes s.args.saved.now s.args.cars s.requires
 
 pub bounds-saved-0 : goal.bounds-saved-0
 unfolding refusal
-bounds-saved-0 c = let z = (sized c).long in omega arith
+bounds-saved-0 c = let z = (sizes c.args.saved.now c.args.cars c.requires).long in omega arith
 
 pub put_record-requires : goal.put_record-requires
 unfolding refusal
-put_record-requires c = let z = sized c in let k = z.long in let l = z.longer c.if-version-eq1.true in (omega arith, omega arith)
+put_record-requires c = let z = sizes c.args.saved.now c.args.cars c.requires in let k = z.long in let l = z.longer c.if-version-eq1.true in (omega arith, omega arith)
 
 pub returns-then-version-eq1 : goal.returns-then-version-eq1
 unfolding refusal
@@ -22,7 +18,7 @@ returns-then-version-eq1 c = rw (c.if-two.true, c.put_record.ensures, one_as_two
 
 pub put_record-requires-then-two : goal.put_record-requires-then-two
 unfolding refusal
-put_record-requires-then-two c = let z = sized c in let k = z.long in let l = z.short in (omega arith, omega arith)
+put_record-requires-then-two c = let z = sizes c.args.saved.now c.args.cars c.requires in let k = z.long in let l = z.short in (omega arith, omega arith)
 
 pub returns-then-two : goal.returns-then-two
 unfolding refusal
@@ -34,7 +30,7 @@ returns-then-cars-gt1 c = rw (c.if-two.false, c.refused.ensures, many_cars_lem c
 
 pub put_record-requires-then-version-eq1-2 : goal.put_record-requires-then-version-eq1-2
 unfolding refusal
-put_record-requires-then-version-eq1-2 c = let z = sized c in let k = z.long in let l = z.short in (omega arith, omega arith)
+put_record-requires-then-version-eq1-2 c = let z = sizes c.args.saved.now c.args.cars c.requires in let k = z.long in let l = z.short in (omega arith, omega arith)
 
 pub returns-then-version-eq1-2 : goal.returns-then-version-eq1-2
 unfolding refusal
@@ -42,7 +38,7 @@ returns-then-version-eq1-2 c = rw (c.if-two.false, c.put_record-then-version-eq1
 
 pub put_record-requires-2 : goal.put_record-requires-2
 unfolding refusal
-put_record-requires-2 c = let z = sized c in let k = z.long in let l = z.short in (omega arith, omega arith)
+put_record-requires-2 c = let z = sizes c.args.saved.now c.args.cars c.requires in let k = z.long in let l = z.short in (omega arith, omega arith)
 
 pub returns : goal.returns
 unfolding refusal
