@@ -9,7 +9,7 @@ use Rattle.state.specs.declared.Queue.{Queue}
 use Rattle.state.specs.View.{Lists}
 use Rattle.can_turns.specs.Turns.{Serving, turn, turns, serving}
 use Rattle.footprint.specs.Footprint.{Part, in_core, probe}
-use Rattle.footprint.proofs.Keeps.{mixed, Keeps, unchanged}
+use Rattle.footprint.proofs.Keeps.{mixed, unchanged}
 use Rattle.footprint.proofs.Core.{allow_keeps}
 
 abbrev probed : List Part

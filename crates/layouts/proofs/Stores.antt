@@ -9,11 +9,11 @@ use lib.ListN.{length, drop, replicate, length-map}
 use lib.Seq.{drop_at}
 use Rattle.arrays.specs.Arrays.{padded}
 use Rattle.arrays.proofs.Laws.{padded_length}
-use Rattle.phones.specs.Ids.{some_of, ids_fit, Left, stays, becomes, afterwards}
+use Rattle.phones.specs.Ids.{some_of, ids_fit, Left, stays, becomes}
 use Rattle.saved_record.specs.declared.CarPhones.{CarPhones}
 use Rattle.saved_record.specs.declared.Store.{Store}
 use Rattle.saved_record.specs.SavedRecord.{CarIds}
-use Rattle.saved_record.specs.Store.{laid_car, empty_car, cars_of, store_of}
+use Rattle.saved_record.specs.Store.{laid_car, empty_car, store_of}
 use Rattle.saved_record.proofs.Laws.{cars_of_store}
 use Rattle.state.specs.View.{store_in_range, laid_store}
 use Rattle.range.proofs.Stores.{ids_fit_lem, car_fits, cars_fit, CarsFit, Lays, laid_cars, laid_range, array_fits, store_range}

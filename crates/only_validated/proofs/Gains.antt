@@ -6,12 +6,10 @@ use mathlib.Core.List.{List}
 use lib.Dec.{ltb}
 use borrow.Author.Tests.{eqb-true, ltb-true}
 use Rattle.arrays.proofs.Laws.{same_bytes_is}
-use Rattle.phones.specs.Ids.{some_of, Left, stays, becomes, afterwards}
+use Rattle.phones.specs.Ids.{some_of, Left, stays, becomes}
 use Rattle.phones.specs.Phones.{id_bytes}
-use Rattle.saved_record.specs.declared.Store.{Store}
 use Rattle.saved_record.specs.SavedRecord.{CarIds, decoded}
 use Rattle.saved_record.specs.Store.{cars_of}
-use Rattle.saved_record.proofs.Laws.{cars_of_store}
 use Rattle.text.specs.Text.{is_text, right}
 use Rattle.state.specs.declared.Kind.{Kind}
 use Rattle.state.specs.declared.Kind.TheVariants.{CodeEntry, InCarAction}
@@ -24,7 +22,7 @@ use Rattle.state.specs.declared.Ended.{Ended}
 use Rattle.state.specs.Running.{is_code, in_progress, method_at}
 use Rattle.state.specs.Replies.{finish}
 use Rattle.state.specs.Checks.{checked}
-use Rattle.state.specs.View.{lists_in, view, laid_store}
+use Rattle.state.specs.View.{lists_in, view}
 use Rattle.range.specs.Range.{in_range}
 use Rattle.policy.specs.Policy.{is_identified}
 use Rattle.pairing.specs.Pairing as Pairing

@@ -6,7 +6,6 @@ use mathlib.Core.List.{List}
 use native.Mathlib.Nat.{mod-lt}
 use native.Mathlib.Omega.{arith}
 use borrow.Author.Tests.{ltb-false, not-true}
-use lib.Dec.{ltb}
 use Rattle.frames.specs.declared.CanFrame.{CanFrame}
 use Rattle.frames.specs.declared.TxClass.{TxClass}
 use Rattle.waiting_list.specs.declared.Waiting.{Waiting}
@@ -15,7 +14,7 @@ use Rattle.state.specs.declared.Queue.{Queue}
 use Rattle.state.specs.declared.Gate.{Gate}
 use Rattle.state.specs.Checks.{unmet}
 use Rattle.state.specs.View.{Lists, view, lists_in}
-use Rattle.range.specs.Range.{within, queue_fits}
+use Rattle.range.specs.Range.{queue_fits}
 use Rattle.range.proofs.Laws.{within_is}
 use Rattle.can_queue.specs.Calls.{Sending, unsent, sending}
 use Rattle.can_turns.specs.Turns.{Serving, turn, turns, serving}

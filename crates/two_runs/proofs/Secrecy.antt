@@ -3,7 +3,7 @@ use mathlib.Core.Path.{◌≡◌, refl, sym, subst, ◌∙◌}
 use mathlib.Core.Bool.{Bool, true, false, cond, true≢false}
 use mathlib.Core.List.{List, [], ◌∷◌}
 use Prim.Native.Nat.{ℕ}
-use Rattle.phones.specs.Ids.{some_of, Left, stays, becomes}
+use Rattle.phones.specs.Ids.{Left, stays, becomes}
 use Rattle.draw.specs.Draw.{drawn}
 use Rattle.text.specs.Text.{is_text}
 use Rattle.saved_record.specs.SavedRecord.{CarIds}
@@ -20,7 +20,6 @@ use Rattle.state.specs.View.{View, Listing, view, laid_phones}
 use Rattle.range.specs.Range.{in_range}
 use Rattle.save.specs.Save.{Saving}
 use Rattle.can_queue.specs.Calls as CanQueue
-use Rattle.can_turns.specs.Turns as CanTurns
 use Rattle.can_queue.specs.Calls.{Sending}
 use Rattle.can_turns.specs.Turns.{Serving, serving, report_of}
 use Rattle.validation.specs.Calls.{submit}
