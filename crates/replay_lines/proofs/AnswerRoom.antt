@@ -1,7 +1,7 @@
 -- The room that an answer takes. Its numbers are of their types: `Owned` is what having such a value tells.
 use mathlib.Core.Path.{refl}
-use mathlib.Core.List.{List, [], ◌∷◌, map}
-use Prim.Native.Nat.{ℕ, zero, suc, ◌^◌, ◌+◌, ◌≤◌, ◌<◌}
+use mathlib.Core.List.{List, [], ◌∷◌}
+use Prim.Native.Nat.{ℕ, zero, suc, ◌^◌, ◌≤◌, ◌<◌}
 use native.Mathlib.Nat.{le_of_eq}
 use native.Mathlib.Omega.{arith}
 use lib.Dec.{lit≤}
@@ -39,7 +39,7 @@ Owned F x vs = Is F.row (F.into x) vs
 each_id : (m : Method) (vs : List Val) → Owned Method.the_field m vs → length m.id.bytes ≤ 32
 each_id m vs h = le_of_eq (search rules)
 
-pub method_ids : (l : List Method) (us : List Val) → shadow (each (Method.the_field).row.Denot (Method.the_field).row.own_val (map (Method.the_field).into l) us)
+pub method_ids : (l : List Method) (us : List Val) → shadow (each (Method.the_row).Denot (Method.the_row).own_val l us)
     → (i : ℕ) → length (get_or l i past_methods).id.bytes ≤ 32
 method_ids [] us h i = lit≤ tt
 method_ids (m ∷ ms) [] h i = absurd h

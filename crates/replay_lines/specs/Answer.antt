@@ -11,7 +11,7 @@ use Rattle.state.specs.declared.Status.{Status}
 use Rattle.state.specs.declared.Status.TheVariants.{InProgress, Succeeded, Failed, Cancelled, TimedOut}
 use Rattle.replay_lines.specs.declared.answer.Held.{Held}
 use Rattle.replay_lines.specs.declared.answer.Held.TheVariants.{Fine, Blank, Item, Part, Reply, Wrong}
-use Rattle.replay_page.specs.Page.{Page, ◌▸◌, text, item, flag, word}
+use Rattle.replay_page.specs.Page.{Page, ◌▸◌, item, flag, word}
 use Rattle.replay_lines.specs.Table.{keys, key_of}
 
 -- the name of an answer, and what it holds

@@ -1,4 +1,3 @@
-use borrow.Author.Rules.{rules}
 use mathlib.Core.Path.{ap}
 use Rattle.replay_lines.specs.Table.{keys, key_names}
 use Rattle.replay_lines.specs.Answer.{answer, behind}

@@ -1,11 +1,9 @@
-use mathlib.Core.Path.{◌≡◌, refl, sym, ◌∙◌}
-use Prim.Native.Nat.{◌≤◌, ◌-◌, ◌+◌}
+use mathlib.Core.Path.{◌≡◌, refl, ◌∙◌}
 use native.Mathlib.Omega.{arith}
-use lib.ListN.{length, drop}
+use lib.ListN.{length}
 use borrow.Author.Rules.{rules}
 use Rattle.replay_page.specs.Page.{page}
 use Rattle.replay_lines.specs.declared.fields.Field.TheVariants.{Nothing}
-use Rattle.replay_lines.specs.Fields.{put_fields}
 use Rattle.replay_lines.proofs.Laws.{fields_again, fields_end}
 use Rattle.replay_lines.proofs.fields.put_fields.Goals as goal
 
@@ -19,8 +17,8 @@ loop-i-preserved c =
     let f = c.put_field-k in
     let far : length a.fields ≡ 8 = search rules in (
       omega arith,
-      f.auto.0 ∙ l.invariant.1,
-      fields_again a.lent.now a.fields l.i (page a.out.now a.at) (page l.out l.k) l.invariant.2 Nothing (page f.new.0 f.result) (omega arith) f.ensures,
+      f.auto.out ∙ l.invariant.1,
+      fields_again a.lent.now a.fields l.i (page a.out.now a.at) (page l.out l.k) l.invariant.2 Nothing (page f.new.out f.result) (omega arith) f.ensures,
     )
 
 pub returns : goal.returns

@@ -1,13 +1,9 @@
 -- The invariant: what is left to put are the fields from i on.
-use mathlib.Core.Path.{◌≡◌, refl, sym, ◌∙◌}
-use Prim.Native.Nat.{◌≤◌, ◌-◌, ◌+◌}
-use native.Mathlib.Omega.{arith}
+use mathlib.Core.Path.{◌≡◌}
+use Prim.Native.Nat.{◌≤◌, ◌-◌}
 use lib.ListN.{length, drop}
-use borrow.Author.Rules.{rules}
 use Rattle.replay_page.specs.Page.{page}
-use Rattle.replay_lines.specs.declared.fields.Field.TheVariants.{Nothing}
 use Rattle.replay_lines.specs.Fields.{put_fields}
-use Rattle.replay_lines.proofs.Laws.{fields_again, fields_end}
 use Rattle.replay_lines.proofs.fields.put_fields.Given as goal
 
 abbrev pub invariant-loop-i : goal.invariant-loop-i

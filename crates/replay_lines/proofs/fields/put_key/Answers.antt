@@ -1,5 +1,4 @@
 -- The lines of the text are the keys, which antt computes.
-use borrow.Author.Rules.{rules}
 use Rattle.replay_lines.specs.Table.{key_names, keys}
 use Rattle.word_table.specs.Words.{lines_of}
 use Rattle.replay_lines.proofs.fields.put_key.Goals as goal

@@ -1,4 +1,3 @@
-use borrow.Author.Rules.{rules}
 use Rattle.replay_lines.proofs.fields.put_row.Goals as goal
 
 pub returns : goal.returns

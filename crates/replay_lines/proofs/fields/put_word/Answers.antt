@@ -1,5 +1,4 @@
 -- The lines of the text are the words, which antt computes.
-use borrow.Author.Rules.{rules}
 use Rattle.replay_lines.specs.Table.{word_names, words}
 use Rattle.word_table.specs.Words.{lines_of}
 use Rattle.replay_lines.proofs.fields.put_word.Goals as goal

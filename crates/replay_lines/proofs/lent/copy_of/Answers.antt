@@ -1,6 +1,5 @@
-use mathlib.Core.Path.{refl, sym}
+use mathlib.Core.Path.{sym}
 use native.Mathlib.Nat.{zero-add}
-use borrow.Author.Rules.{rules}
 use Rattle.replay_page.proofs.Laws.{front}
 use Rattle.replay_lines.proofs.lent.copy_of.Goals as goal
 

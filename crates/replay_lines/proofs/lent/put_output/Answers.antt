@@ -1,4 +1,3 @@
-use borrow.Author.Rules.{rules}
 use Rattle.replay_lines.specs.Lent.{output}
 use Rattle.replay_page.specs.Page.{known}
 use Rattle.replay_lines.specs.Table.{keys, key_names}

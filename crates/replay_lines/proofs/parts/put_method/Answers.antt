@@ -1,5 +1,4 @@
 use Rattle.replay_lines.specs.Parts.{method}
-use borrow.Author.Rules.{rules}
 use Rattle.replay_lines.proofs.parts.put_method.Goals as goal
 
 pub returns : goal.returns

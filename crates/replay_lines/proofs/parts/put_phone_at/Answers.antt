@@ -1,4 +1,3 @@
-use mathlib.Core.Path.{◌∙◌}
 use Rattle.replay_lines.specs.Parts.{id_at}
 use Rattle.replay_lines.proofs.parts.put_phone_at.Goals as goal
 

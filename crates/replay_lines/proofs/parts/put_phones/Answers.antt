@@ -1,13 +1,13 @@
 use mathlib.Core.Path.{◌≡◌, refl, ap, ◌∙◌}
 use mathlib.Core.List.{List}
-use Prim.Native.Nat.{ℕ, ◌-◌}
+use Prim.Native.Nat.{ℕ}
 use native.Mathlib.Omega.{arith}
 use borrow.Author.Rules.{rules}
-use lib.ListN.{length, take, drop}
-use Rattle.phones.specs.Phones.{ids_in, phones_of}
-use Rattle.phones.proofs.Walk.{Walk, walk_none, walk_here, walk_on}
+use lib.ListN.{length}
+use Rattle.phones.specs.Phones.{phones_of}
+use Rattle.phones.proofs.Walk.{walk_none, walk_here, walk_on}
 use Rattle.replay_page.specs.Page.{page}
-use Rattle.replay_lines.specs.Parts.{ids_from, id_at}
+use Rattle.replay_lines.specs.Parts.{id_at}
 use Rattle.replay_lines.proofs.Laws.{ids_again, ids_end}
 use Rattle.replay_lines.proofs.parts.put_phones.Goals as goal
 
@@ -28,8 +28,8 @@ loop-i-preserved c =
     let many = loop.invariant.0.many in
     let printed = put.ensures ∙ ap (λ (x : List ℕ). id_at loop.i x (page loop.out loop.k)) is in (
       walk_on _ _ _ _ _ _ _ loop.invariant.0 (omega arith) cut.0,
-      put.auto.0 ∙ loop.invariant.1,
-      ids_again _ loop.i (page a.out.now a.at) (page loop.out loop.k) loop.invariant.2 (page put.new.0 put.result) (omega arith) printed,
+      put.auto.out ∙ loop.invariant.1,
+      ids_again _ loop.i (page a.out.now a.at) (page loop.out loop.k) loop.invariant.2 (page put.new.out put.result) (omega arith) printed,
     )
 
 pub returns : goal.returns

@@ -1,4 +1,3 @@
-use borrow.Author.Rules.{rules}
 use Rattle.replay_lines.proofs.parts.put_saved.Goals as goal
 
 pub returns : goal.returns
