@@ -1,4 +1,3 @@
-use borrow.Author.Rules.{rules}
 use Rattle.replay_lists.specs.Lists.{kind_in}
 use Rattle.replay_lists.proofs.kind_in.Goals as goal
 
