@@ -22,6 +22,10 @@ use Rattle.can_queue.proofs.Laws.{sending_other}
 use Rattle.can_turns.proofs.Laws.{serving_other}
 use Rattle.definition.specs.Gate.{send_can_frame, serve_can_frames, on_queue, records, Says, of_sending, of_serving, asked, served, queueing, says, gives, left, packed, step, lent_records, ran_given}
 use Rattle.outcomes.specs.Settled.{queued}
+use Rattle.state.specs.declared.Outcome.{Outcome}
+use Rattle.state.specs.declared.Ran.{Ran}
+use Rattle.gate_queue.specs.declared.SentOn.{SentOn}
+use Rattle.gate_queue.specs.declared.RanOn.{RanOn}
 use Rattle.outcomes.proofs.Laws.{lent_as_lem}
 use Rattle.gate_queue.specs.Given.{sending_on, sent_of, unsent_of, ran_of, served_of, unserved_of}
 
@@ -60,6 +64,13 @@ module _ (g : Gate) (ws : List Waiting) where
       go true x = refl
       go false x = refl
 
+  -- as the call puts it together
+  pub sends_by : (frame : CanFrame) (class : TxClass) (owner : List ℕ) (l : List Waiting) (o : SentOn) (r : Outcome) (m : List Waiting)
+      → l ≡ ws → o ≡ sent_of g l frame class owner → r ≡ o.outcome → m ≡ o.all → lent_records r m ≡ step g (on_queue (send_can_frame ws frame class owner))
+  sends_by frame class owner l o r m e₁ e₂ e₃ e₄ =
+      ap (λ (t : Outcome). lent_records t m) e₃ ∙ ap (lent_records o.outcome) e₄ ∙ ap (λ (t : SentOn). lent_records t.outcome t.all) e₂ ∙
+      ap (λ (t : List Waiting). lent_records (sent_of g t frame class owner).outcome (sent_of g t frame class owner).all) e₁ ∙ sends frame class owner
+
   -- ---- serving
 
   by_serving : (x : Serving) → ran_given (ran_of g Done (run_of x)).ran x.list ≡ gives packed g (records ws) (of_serving (view g) x)
@@ -88,3 +99,10 @@ module _ (g : Gate) (ws : List Waiting) where
           ≡ gives packed g (records ws) (cond b (of_serving (view g) (no_turn g.core g.queue ws)) (asked (view g) (report BadSettings (report_of []))))
       go true = by_serving (no_turn g.core g.queue ws)
       go false = by_none
+
+  -- as the call puts it together
+  pub serves_by : (n clock : ℕ) (l : List Waiting) (o : RanOn) (r : Ran) (m : List Waiting)
+      → l ≡ ws → o ≡ served_of g l n clock → r ≡ o.ran → m ≡ o.all → ran_given r m ≡ step g (on_queue (serve_can_frames ws n clock))
+  serves_by n clock l o r m e₁ e₂ e₃ e₄ =
+      ap (λ (t : Ran). ran_given t m) e₃ ∙ ap (ran_given o.ran) e₄ ∙ ap (λ (t : RanOn). ran_given t.ran t.all) e₂ ∙
+      ap (λ (t : List Waiting). ran_given (served_of g t n clock).ran (served_of g t n clock).all) e₁ ∙ serves n clock
