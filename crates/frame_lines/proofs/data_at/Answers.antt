@@ -1,7 +1,6 @@
 use native.Mathlib.Omega.{arith}
 use lib.ListN.{take, drop, length-drop, length-take}
 use Rattle.frame_lines.proofs.Numbers.{no_data}
-use borrow.Author.Rules.{rules}
 use Rattle.frame_lines.proofs.data_at.Goals as goal
 
 pub returns-then-s-lt21 : goal.returns-then-s-lt21

@@ -1,6 +1,5 @@
 use native.Mathlib.Omega.{arith}
 use borrow.Author.Tests.{lt-ltb, le-ltb}
-use borrow.Author.Rules.{rules}
 use Rattle.frame_lines.proofs.entry_if.Goals as goal
 
 pub returns-then-bus-gt3 : goal.returns-then-bus-gt3

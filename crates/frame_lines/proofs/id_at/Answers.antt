@@ -1,5 +1,4 @@
 use mathlib.Core.Path.{ap₂, ◌∙◌}
-use native.Mathlib.Omega.{arith}
 use Rattle.replay_digits.specs.Digits.{number_in}
 use Rattle.replay_values.specs.Values.{id_in}
 use Rattle.frame_lines.specs.Guess.{behind}

@@ -1,5 +1,4 @@
 use mathlib.Core.Path.{ap, ◌∙◌}
-use native.Mathlib.Omega.{arith}
 use Rattle.replay_digits.specs.Digits.{number_in}
 use Rattle.frame_lines.proofs.Words.{behind_short, behind_part, found_inside}
 use Rattle.frame_lines.proofs.number_at.Goals as goal

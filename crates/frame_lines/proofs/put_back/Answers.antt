@@ -1,4 +1,3 @@
-use mathlib.Core.Path.{◌∙◌}
 use Rattle.replay_page.specs.Page.{item}
 use Rattle.frame_lines.specs.Walk.{lay}
 use borrow.Author.Rules.{rules}
