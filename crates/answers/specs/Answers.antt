@@ -4,12 +4,10 @@ use Rattle.std.specs.Prelude.{Bool, true, false, cond, not, ◌&&◌, ◌||◌, 
 use Rattle.arrays.specs.Arrays.{padded}
 use Rattle.phones.specs.Phones.{id_bytes, id_of}
 use Rattle.state.specs.declared.Method.{Method}
-use Rattle.state.specs.declared.Session.{Session}
 use Rattle.state.specs.declared.Policy.{Policy}
 use Rattle.state.specs.declared.Challenge.{Challenge}
 use Rattle.state.specs.declared.Core.{Core}
 use Rattle.state.specs.declared.Answer.{Answer}
-use Rattle.state.specs.declared.Answer.TheVariants as Answer
 use Rattle.state.specs.declared.Answer.TheVariants.{Done, Nothing, BadSettings}
 use Rattle.state.specs.Running.{is_running, in_progress, code_in_progress, no_method, clean_method}
 use Rattle.state.specs.View.{Lists, View}
