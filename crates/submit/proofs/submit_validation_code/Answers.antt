@@ -1,6 +1,5 @@
 use Rattle.state.specs.Checks.{checked}
 use Rattle.validation.specs.Calls.{submit}
-use borrow.Author.Rules.{rules}
 use Rattle.submit.proofs.submit_validation_code.Goals as goal
 
 pub returns : goal.returns
