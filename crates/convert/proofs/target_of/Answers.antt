@@ -1,5 +1,4 @@
 -- The four cases of the definition.
-use borrow.Author.Rules.{rules}
 use borrow.Author.Tests.{eq-eqb, ne_eqb}
 use Rattle.convert.specs.Arguments.{target_of}
 use Rattle.convert.proofs.target_of.Goals as goal
