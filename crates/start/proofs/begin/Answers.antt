@@ -1,5 +1,4 @@
 use Rattle.validation.specs.Calls.{begin}
-use borrow.Author.Rules.{rules}
 use Rattle.start.proofs.begin.Goals as goal
 
 pub returns : goal.returns

@@ -1,7 +1,6 @@
 use Rattle.state.specs.Checks.{checked}
 use Rattle.validation.specs.Calls.{start, start_at, start_checks}
 use borrow.Author.Tests.{lt-ltb}
-use borrow.Author.Rules.{rules}
 use Rattle.start.proofs.start_validation.Goals as goal
 
 pub returns-then-phone-gt32 : goal.returns-then-phone-gt32
