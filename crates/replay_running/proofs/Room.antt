@@ -1,6 +1,6 @@
 -- The room that a running session and the probe take.
 use mathlib.Core.Bool.{Bool, true, false}
-use mathlib.Core.List.{List, [], ◌∷◌, map}
+use mathlib.Core.List.{List, [], ◌∷◌}
 use Prim.Native.Nat.{ℕ, zero, suc, ◌+◌, ◌*◌, ◌^◌, ◌≤◌, ◌<◌}
 use native.Mathlib.Nat.{le_of_eq}
 use native.Mathlib.Omega.{arith}
@@ -9,7 +9,7 @@ use lib.ListN.{length, get_or}
 use mir.Val.{Val}
 use denote.Array.{each}
 use denote.Shadow.{shadow}
-use denote.Struct.Field.{u64-field}
+use denote.Builtin.{u64}
 use borrow.Author.Rules.{rules}
 use Rattle.ascii.specs.Ascii.{ascii}
 use Rattle.frames.specs.declared.Id.{Id}
@@ -73,7 +73,7 @@ frame_in_lem f h = id_text_in f.id ⊕ text_in (ascii "/") ⊕ bytes_in_lem f.da
 each_data : (f : ProbeFrame) (vs : List Val) → Owned ProbeFrame.the_field f vs → length f.data ≤ 8
 each_data f vs h = le_of_eq (search rules)
 
-frame_data : (l : List ProbeFrame) (us : List Val) → shadow (each (ProbeFrame.the_field).row.Denot (ProbeFrame.the_field).row.own_val (map (ProbeFrame.the_field).into l) us)
+frame_data : (l : List ProbeFrame) (us : List Val) → shadow (each (ProbeFrame.the_row).Denot (ProbeFrame.the_row).own_val l us)
     → (i : ℕ) → length (get_or l i no_frame).data ≤ 8
 frame_data [] us h i = lit≤ tt
 frame_data (f ∷ fs) [] h i = absurd h
@@ -100,7 +100,7 @@ window_in w vs h =
     ⊕ item_in (ascii " opened_at=") w.opened (omega arith) ⊕ item_in (ascii " relocks_then=") w.relocks (omega arith) ⊕ text_in (ascii " sent=") ⊕ sent_in w 4)
     (upto 231 (lit≤ tt) (word_in (ascii " window=") (ascii "none") 4 (lit≤ tt)))
 
-each_mark : (l : List ℕ) (us : List Val) → shadow (each u64-field.row.Denot u64-field.row.own_val (map u64-field.into l) us) → (i : ℕ) → get_or l i 0 < 2 ^ 64
+each_mark : (l : List ℕ) (us : List Val) → shadow (each u64.Denot u64.own_val l us) → (i : ℕ) → get_or l i 0 < 2 ^ 64
 each_mark [] us h i = lit< tt
 each_mark (n ∷ ns) [] h i = absurd h
 each_mark (n ∷ ns) (u ∷ us) h zero = omega arith

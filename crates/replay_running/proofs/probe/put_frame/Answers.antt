@@ -1,5 +1,4 @@
 use borrow.Author.Rules.{rules}
-use mathlib.Core.Path.{refl, ◌∙◌}
 use Rattle.replay_running.specs.Probe.{frame}
 use Rattle.replay_running.proofs.probe.put_frame.Goals as goal
 

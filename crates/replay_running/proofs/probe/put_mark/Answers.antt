@@ -1,4 +1,3 @@
-use borrow.Author.Rules.{rules}
 use Rattle.replay_lines.specs.Table.{words, word_names}
 use Rattle.replay_running.proofs.probe.put_mark.Goals as goal
 

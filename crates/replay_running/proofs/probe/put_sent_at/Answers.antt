@@ -1,4 +1,3 @@
-use mathlib.Core.Path.{refl}
 use Rattle.replay_running.specs.Probe.{sent_at}
 use borrow.Author.Tests.{le-ltb, lt-ltb}
 use borrow.Author.Rules.{rules}

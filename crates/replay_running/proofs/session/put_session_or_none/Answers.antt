@@ -1,4 +1,3 @@
-use borrow.Author.Rules.{rules}
 use Rattle.replay_lines.specs.Table.{keys, key_names, words, word_names}
 use Rattle.replay_running.specs.Session.{session_or_none}
 use Rattle.replay_running.proofs.session.put_session_or_none.Goals as goal
