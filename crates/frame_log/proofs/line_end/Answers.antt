@@ -1,4 +1,3 @@
-use native.Mathlib.Omega.{arith}
 use Rattle.frame_log.proofs.Reading.{end_found, end_open}
 use Rattle.frame_log.proofs.line_end.Goals as goal
 

@@ -1,8 +1,6 @@
 use mathlib.Core.Path.{◌∙◌}
-use Prim.Native.Nat.{◌-◌}
 use native.Mathlib.Omega.{arith}
-use lib.ListN.{length}
-use Rattle.frame_log.proofs.Reading.{Kept, line_inside, kept_start, kept_end, kept_bad, kept_back, kept_over, kept_again}
+use Rattle.frame_log.proofs.Reading.{line_inside, kept_start, kept_end, kept_bad, kept_back, kept_over, kept_again}
 use Rattle.frame_log.proofs.read_log.Goals as goal
 
 pub loop-at-init : goal.loop-at-init

@@ -1,9 +1,7 @@
 -- The invariant (`Kept`): what the arrays hold are the entries read so far, and the rest of the text decides the rest.
-use mathlib.Core.Path.{◌∙◌}
 use Prim.Native.Nat.{◌-◌}
-use native.Mathlib.Omega.{arith}
 use lib.ListN.{length}
-use Rattle.frame_log.proofs.Reading.{Kept, line_inside, kept_start, kept_end, kept_bad, kept_back, kept_over, kept_again}
+use Rattle.frame_log.proofs.Reading.{Kept}
 use Rattle.frame_log.proofs.read_log.Given as goal
 
 abbrev pub invariant-loop-at : goal.invariant-loop-at
