@@ -1,8 +1,7 @@
 -- New gate: read-only, with the source's starting statics.
-use Rattle.std.specs.Prelude.{Bool, true, false, cond, ◌&&◌, List, [], map, ℕ, replicate, take}
+use Rattle.std.specs.Prelude.{true, false, cond, ◌&&◌, List, [], map, ℕ, replicate, take}
 use Rattle.arrays.specs.Arrays.{padded}
 use Rattle.phones.specs.Phones.{id_of, list_of}
-use Rattle.state.specs.declared.Status.{Status}
 use Rattle.state.specs.declared.Status.TheVariants.{InProgress}
 use Rattle.state.specs.declared.Method.{Method}
 use Rattle.state.specs.declared.Methods.{Methods}

@@ -1,7 +1,6 @@
 use mathlib.Core.Path.{◌≡◌, refl, ◌∙◌}
 use mathlib.Core.List.{map}
-use Prim.Native.Nat.{◌≤◌, ◌-◌}
-use lib.ListN.{length, take, length-set, length-map, get_or-map}
+use lib.ListN.{length, length-set, length-map, get_or-map}
 use borrow.Author.Rules.{rules}
 use native.Mathlib.Omega.{arith}
 use Rattle.arrays.specs.Arrays.{padded}
@@ -26,11 +25,11 @@ loop-i-preserved c =
     let loop = c.loop-i in
     let list = c.args.list in
     let far : length (map clean_method list) ≡ 8 = length-map list clean_method ∙ loop.invariant.2 in
-    (omega arith, omega arith, loop.invariant.2, simp length-set loop.invariant.3, rw (c.clean_method-m.ensures, ← get_or-map clean_method list loop.i past_methods) (copy_step 8 no_method loop.i loop.auto (map clean_method list) far loop.invariant.4 (clean_method past_methods) (omega arith)))
+    (omega arith, omega arith, loop.invariant.2, simp length-set loop.invariant.3, rw (c.clean_method-m.ensures, ← get_or-map clean_method list loop.i past_methods) (copy_step 8 no_method loop.i loop.kept (map clean_method list) far loop.invariant.4 (clean_method past_methods) (omega arith)))
 
 pub returns : goal.returns
 returns c =
     let loop = c.loop-i in
     let args = c.args in
     let far : length (map clean_method args.list) ≡ 8 = length-map args.list clean_method ∙ loop.invariant.2 in
-    copy_end 8 no_method loop.i loop.auto (map clean_method args.list) far loop.invariant.4 args.count (omega arith) (omega arith)
+    copy_end 8 no_method loop.i loop.kept (map clean_method args.list) far loop.invariant.4 args.count (omega arith) (omega arith)

@@ -1,13 +1,10 @@
 -- The invariant: the first i methods are there, clean, then methods without an id.
-use mathlib.Core.Path.{◌≡◌, refl, ◌∙◌}
+use mathlib.Core.Path.{◌≡◌}
 use mathlib.Core.List.{map}
 use Prim.Native.Nat.{◌≤◌, ◌-◌}
-use lib.ListN.{length, take, length-set, length-map, get_or-map}
-use borrow.Author.Rules.{rules}
-use native.Mathlib.Omega.{arith}
+use lib.ListN.{length, take}
 use Rattle.arrays.specs.Arrays.{padded}
-use Rattle.arrays.proofs.Laws.{copy_step, copy_end, long_map}
-use Rattle.state.specs.Running.{no_method, clean_method, past_methods}
+use Rattle.state.specs.Running.{no_method, clean_method}
 use Rattle.new_gate.proofs.used_methods.Given as goal
 
 abbrev pub invariant-loop-i : goal.invariant-loop-i
