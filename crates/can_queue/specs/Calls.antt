@@ -1,5 +1,5 @@
 -- Frames that wait in a list that the host lends (02, W-204): sending one.
-use Rattle.std.specs.Prelude.{Bool, not, ◌||◌, List, [], ◌∷◌, ◌++◌, ℕ, suc, ◌-◌, eqb, ltb, length}
+use Rattle.std.specs.Prelude.{Bool, not, ◌||◌, List, [], ◌∷◌, ◌++◌, ℕ, suc, eqb, ltb, length}
 use Rattle.phones.specs.Ids.{Left, stays, becomes}
 use Rattle.phones.specs.Phones.{id_of}
 use Rattle.frames.specs.declared.CanFrame.{CanFrame}

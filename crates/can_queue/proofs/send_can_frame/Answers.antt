@@ -2,7 +2,6 @@ use borrow.Author.Rules.{rules}
 use borrow.Author.Tests.{lt-ltb, le-ltb, eq-eqb}
 use mathlib.Core.Path.{◌≡◌}
 use native.Mathlib.Numerals.{add-one}
-use native.Mathlib.Omega.{arith}
 use lib.ListN.{length}
 use Rattle.can_queue.proofs.Laws.{sending_looked}
 use Rattle.can_queue.proofs.send_can_frame.Goals as goal
