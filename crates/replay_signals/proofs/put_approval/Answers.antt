@@ -1,5 +1,4 @@
 use borrow.Author.Rules.{rules}
-use mathlib.Core.Path.{refl, ◌∙◌}
 use Rattle.replay_signals.specs.Signals.{approval}
 use Rattle.replay_signals.proofs.put_approval.Goals as goal
 

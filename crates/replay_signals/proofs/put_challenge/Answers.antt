@@ -1,4 +1,3 @@
-use mathlib.Core.Path.{refl, ◌∙◌}
 use Rattle.replay_signals.specs.Signals.{challenge}
 use Rattle.replay_signals.proofs.put_challenge.Goals as goal
 

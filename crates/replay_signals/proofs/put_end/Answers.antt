@@ -1,4 +1,3 @@
-use mathlib.Core.Path.{refl}
 use Rattle.replay_signals.specs.Signals.{ended}
 use borrow.Author.Tests.{eq-eqb, ne_eqb}
 use Rattle.replay_signals.proofs.put_end.Goals as goal

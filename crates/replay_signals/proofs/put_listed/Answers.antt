@@ -1,4 +1,3 @@
-use mathlib.Core.Path.{refl, ◌∙◌}
 use Rattle.replay_signals.specs.Signals.{listed}
 use Rattle.replay_signals.proofs.put_listed.Goals as goal
 

@@ -1,4 +1,3 @@
-use mathlib.Core.Path.{refl, ◌∙◌}
 use Rattle.replay_signals.specs.Signals.{next}
 use borrow.Author.Tests.{eq-eqb, ne_eqb}
 use Rattle.replay_signals.proofs.put_next.Goals as goal

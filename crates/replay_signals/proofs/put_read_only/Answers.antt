@@ -1,4 +1,3 @@
-use mathlib.Core.Path.{refl, ◌∙◌}
 use Rattle.replay_signals.specs.Signals.{read_only}
 use Rattle.replay_signals.proofs.put_read_only.Goals as goal
 

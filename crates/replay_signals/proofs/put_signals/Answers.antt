@@ -1,4 +1,3 @@
-use mathlib.Core.Path.{refl, ◌∙◌}
 use Rattle.replay_signals.specs.Signals.{signals}
 use Rattle.replay_signals.proofs.put_signals.Goals as goal
 
