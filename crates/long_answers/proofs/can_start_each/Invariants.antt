@@ -1,14 +1,10 @@
 -- The invariant: the first i answers are there, then no.
-use mathlib.Core.Path.{◌≡◌, refl}
+use mathlib.Core.Path.{◌≡◌}
 use mathlib.Core.Bool.{false}
 use Prim.Native.Nat.{◌≤◌, ◌-◌}
-use lib.ListN.{length, take, length-set}
-use borrow.Author.Rules.{rules}
-use native.Mathlib.Omega.{arith}
+use lib.ListN.{length, take}
 use Rattle.arrays.specs.Arrays.{padded}
-use Rattle.arrays.proofs.Laws.{long_map}
 use Rattle.answers.specs.Answers.{can_start_from}
-use Rattle.long_answers.proofs.Laws.{start_step, start_end}
 use Rattle.long_answers.proofs.can_start_each.Given as goal
 
 abbrev pub invariant-loop-i : goal.invariant-loop-i

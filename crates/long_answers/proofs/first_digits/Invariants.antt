@@ -1,12 +1,8 @@
 -- The invariant: the first i digits are there, then zeros.
-use mathlib.Core.Path.{◌≡◌, refl}
+use mathlib.Core.Path.{◌≡◌}
 use Prim.Native.Nat.{◌≤◌, ◌-◌}
-use lib.ListN.{length, take, length-set}
-use borrow.Author.Rules.{rules}
-use native.Mathlib.Omega.{arith}
+use lib.ListN.{length, take}
 use Rattle.arrays.specs.Arrays.{padded}
-use Rattle.answers.specs.Answers.{shown_digits}
-use Rattle.arrays.proofs.Laws.{copy_step, copy_end}
 use Rattle.long_answers.proofs.first_digits.Given as goal
 
 abbrev pub invariant-loop-i : goal.invariant-loop-i

@@ -1,4 +1,3 @@
-use borrow.Author.Rules.{rules}
 use Rattle.long_answers.proofs.Laws.{kept_early}
 use Rattle.long_answers.proofs.is_kept.Goals as goal
 
