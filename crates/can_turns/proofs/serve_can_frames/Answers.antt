@@ -1,12 +1,10 @@
 use mathlib.Core.Path.{◌≡◌, refl, ◌∙◌}
-use Prim.Native.Nat.{◌≤◌, ◌-◌}
 use native.Mathlib.Omega.{arith}
 use borrow.Author.Rules.{rules}
 use lib.ListN.{length}
 use Rattle.arrays.proofs.Laws.{long_map}
 use Rattle.state.specs.View.{lists_in}
-use Rattle.can_turns.specs.Turns.{Serving, no_turn, turns}
-use Rattle.can_turns.specs.Steps.{run_of}
+use Rattle.can_turns.specs.Turns.{no_turn, turns}
 use Rattle.can_turns.proofs.Laws.{turns_on, run_ends}
 use Rattle.can_turns.proofs.serve_can_frames.Goals as goal
 

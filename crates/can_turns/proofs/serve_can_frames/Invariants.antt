@@ -1,14 +1,10 @@
 -- The invariant: after i turns the run stands where i turns lead from its beginning.
-use mathlib.Core.Path.{◌≡◌, refl, ◌∙◌}
+use mathlib.Core.Path.{◌≡◌}
 use Prim.Native.Nat.{◌≤◌, ◌-◌}
-use native.Mathlib.Omega.{arith}
-use borrow.Author.Rules.{rules}
 use lib.ListN.{length}
-use Rattle.arrays.proofs.Laws.{long_map}
 use Rattle.state.specs.View.{lists_in}
-use Rattle.can_turns.specs.Turns.{Serving, no_turn, turns}
+use Rattle.can_turns.specs.Turns.{Serving, turns}
 use Rattle.can_turns.specs.Steps.{run_of}
-use Rattle.can_turns.proofs.Laws.{turns_on, run_ends}
 use Rattle.can_turns.proofs.serve_can_frames.Given as goal
 
 abbrev pub invariant-loop-i : goal.invariant-loop-i
