@@ -4,4 +4,4 @@ use Rattle.std.proofs.Common.{rules}
 use Rattle.list_cases.proofs.show.Goals as goal
 
 pub slice_bounds-bytes-end : goal.slice_bounds-bytes-end
-slice_bounds-bytes-end c = let l = c.list_record-listing in listing_fits l.result c.args.input.now l.ensures
+slice_bounds-bytes-end g c = let l = c.list_record-listing in listing_fits l.result c.args.input.now l.ensures
