@@ -1,11 +1,9 @@
 -- The invariant: the first i bytes are written.
-use mathlib.Core.Path.{◌≡◌, refl, ap, ◌∙◌}
-use Prim.Native.Nat.{ℕ, ◌+◌, ◌*◌, ◌-◌, ◌≤◌}
-use native.Mathlib.Omega.{arith}
-use lib.ListN.{length, get_or, length-set}
+use mathlib.Core.Path.{◌≡◌}
+use Prim.Native.Nat.{◌*◌, ◌-◌, ◌≤◌}
+use lib.ListN.{length}
 use Rattle.arrays.specs.Arrays.{padded}
-use Rattle.text_cases.specs.Cases.{byte_at, pairs_in, bytes_of}
-use Rattle.text_cases.proofs.Laws.{nibble_small, pairs_fit, bytes_turn}
+use Rattle.text_cases.specs.Cases.{bytes_of}
 use Rattle.text_cases.proofs.bytes_of.Given as goal
 
 abbrev pub invariant-loop-i : goal.invariant-loop-i

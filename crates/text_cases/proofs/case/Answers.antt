@@ -8,10 +8,10 @@ use borrow.Author.Rules.{rules}
 use Rattle.text_cases.proofs.case.Goals as goal
 
 pub slice_bounds-bytes-end : goal.slice_bounds-bytes-end
-slice_bounds-bytes-end c = omega (arith, c.pairs-n.ensures, (pairs_fit (length c.args.line.now)).0)
+slice_bounds-bytes-end g c = omega (arith, c.pairs-n.ensures, (pairs_fit (length c.args.line.now)).0)
 
 pub slice_bounds-verdict_of-end : goal.slice_bounds-verdict_of-end
-slice_bounds-verdict_of-end c =
+slice_bounds-verdict_of-end g c =
     let bytes = c.bytes_of-bytes.result in
     let far : length bytes ≡ 32 = search rules in
     sym (length-take-le c.pairs-n.result bytes (omega (arith, c.pairs-n.ensures, (pairs_fit (length c.args.line.now)).0)))
