@@ -1,9 +1,8 @@
-use mathlib.Core.Path.{refl, ◌∙◌}
+use mathlib.Core.Path.{refl}
 use mathlib.Core.List.{[]}
 use Rattle.replay_page.specs.Page.{page}
 use Rattle.frame_lines.specs.Walk.{Laid}
 use Rattle.match_logs.proofs.Logs.{answer_laid}
-use borrow.Author.Rules.{rules}
 use Rattle.match_logs.proofs.texts.put_answer.Goals as goal
 
 pub returns : goal.returns

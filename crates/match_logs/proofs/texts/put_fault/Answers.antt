@@ -1,6 +1,5 @@
 use Rattle.replay_page.specs.Page.{item}
 use Rattle.frame_lines.specs.Walk.{lay}
-use borrow.Author.Rules.{rules}
 use Rattle.match_logs.proofs.texts.put_fault.Goals as goal
 
 pub returns : goal.returns

@@ -1,5 +1,4 @@
 use Rattle.frame_lines.specs.Walk.{lay}
-use borrow.Author.Rules.{rules}
 use Rattle.match_logs.proofs.texts.put_over.Goals as goal
 
 pub returns : goal.returns
