@@ -1,11 +1,5 @@
 -- The invariant: the first i cuts gave the digest of the whole. None gives another.
-use mathlib.Core.Bool.{true, false, false≢true}
-use mathlib.Core.Path.{◌≡◌, sym, ◌∙◌}
 use Prim.Native.Nat.{◌≤◌, ◌-◌}
-use native.Mathlib.Omega.{arith}
-use borrow.Author.Rules.{rules}
-use lib.Seq.{length-take-le}
-use Rattle.vectors.proofs.Cut.{same_cut}
 use Rattle.vectors.proofs.cuts.Given as goal
 
 abbrev pub invariant-loop-i : goal.invariant-loop-i
