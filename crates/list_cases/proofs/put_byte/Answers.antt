@@ -1,4 +1,4 @@
-use Rattle.std.proofs.Common.{rules, le-ltb, lt-ltb}
+use Rattle.std.proofs.Common.{le-ltb, lt-ltb}
 use Rattle.list_cases.specs.Records.{with_byte}
 use Rattle.list_cases.proofs.put_byte.Goals as goal
 

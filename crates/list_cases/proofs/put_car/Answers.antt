@@ -1,5 +1,4 @@
 use Rattle.list_cases.specs.Records.{with_car}
-use Rattle.std.proofs.Common.{rules}
 use Rattle.list_cases.proofs.put_car.Goals as goal
 
 pub returns : goal.returns

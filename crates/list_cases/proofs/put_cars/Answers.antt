@@ -1,5 +1,4 @@
 use Rattle.list_cases.specs.Records.{with_cars}
-use Rattle.std.proofs.Common.{rules}
 use Rattle.list_cases.proofs.put_cars.Goals as goal
 
 pub returns : goal.returns

@@ -1,5 +1,5 @@
-use Rattle.std.proofs.Common.{◌≡◌, ◌-◌, ◌≤◌, length, refl, ap, ◌∙◌, add-one, arith}
-use Rattle.list_cases.specs.Records.{written, with_phone, with_phones}
+use Rattle.std.proofs.Common.{◌≡◌, refl, ap, ◌∙◌, add-one, arith}
+use Rattle.list_cases.specs.Records.{with_phone, with_phones}
 use Rattle.list_cases.proofs.put_phones.Goals as goal
 
 pub loop-i-init : goal.loop-i-init

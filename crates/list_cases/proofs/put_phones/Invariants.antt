@@ -1,6 +1,6 @@
 -- The invariant: the first i phones are written. Fewer are left at each turn.
-use Rattle.std.proofs.Common.{◌≡◌, ◌-◌, ◌≤◌, length, refl, ap, ◌∙◌, add-one, arith}
-use Rattle.list_cases.specs.Records.{written, with_phone, with_phones}
+use Rattle.std.proofs.Common.{◌≡◌, ◌-◌, ◌≤◌, length}
+use Rattle.list_cases.specs.Records.{written, with_phones}
 use Rattle.list_cases.proofs.put_phones.Given as goal
 
 abbrev pub invariant-loop-i : goal.invariant-loop-i

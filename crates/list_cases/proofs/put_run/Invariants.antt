@@ -1,7 +1,6 @@
 -- The invariant: the whole run gives what the bytes that are left give from where we are. Fewer are left at each turn.
-use Rattle.std.proofs.Common.{◌≡◌, length, sym, refl, ◌∙◌, arith}
+use Rattle.std.proofs.Common.{◌≡◌, length}
 use Rattle.list_cases.specs.Records.{written, with_run}
-use Rattle.list_cases.proofs.Laws.{run_turn, run_end}
 use Rattle.list_cases.proofs.put_run.Given as goal
 
 abbrev pub invariant-loop-left : goal.invariant-loop-left

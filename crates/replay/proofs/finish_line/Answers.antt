@@ -12,4 +12,4 @@ pub returns : goal.returns
 returns g c =
     let a = c.args in
     let h = after_line a.states a.p.host a.p.number (line_in a.line.now a.p.len) (page a.out.now 0) _ c.give_line-r.ensures.0 in
-    rw (c.wrapping_add_u64.ensures, ← h)
+    rw (c.wrapping_add_u64.ensures.value, ← h)
