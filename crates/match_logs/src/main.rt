@@ -60,7 +60,7 @@ fn print_answer(rt: &(impl Print + Eprint), journal: &[u8], recorder: &[u8]) {
     }
 }
 
-// The first 41,554 bytes of a log decide: 513 lines of at most 81 bytes, and one byte more (first-bytes-decide in
+// The first 41,554 bytes of a log decide: 513 lines of at most 81 bytes, and one byte more (first_bytes_decide in
 // proofs/Logs.antt). So logs of any length are read in this much memory.
 fn main(rt: HostRuntime) {
     let err = rt.stderr();
