@@ -1,4 +1,3 @@
-use borrow.Author.Rules.{rules}
 use Rattle.outcomes.proofs.stored_if.Goals as goal
 
 pub returns-then-stores : goal.returns-then-stores
