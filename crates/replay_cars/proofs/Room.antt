@@ -40,7 +40,7 @@ car_in_lem c vs h =
     ⊕ list_in c.phones _ h.1.1.1.0
 
 -- the first n of an array
-each_in : (n : ℕ) (l : List CarPhones) (us : List Val) → shadow (each (CarPhones.the_field).row.Denot (CarPhones.the_field).row.own_val (map (CarPhones.the_field).into l) us)
+each_in : (n : ℕ) (l : List CarPhones) (us : List Val) → shadow (each (CarPhones.the_row).Denot (CarPhones.the_row).own_val l us)
     → Within (length l * 2170) (each_car (map car_of (take n l)))
 unfolding each_car
 each_in zero l us h = same (length l * 2170)

@@ -1,12 +1,10 @@
 use mathlib.Core.Path.{◌≡◌, refl, sym, ◌∙◌}
-use Prim.Native.Nat.{◌≤◌, ◌-◌}
 use native.Mathlib.Omega.{arith}
 use borrow.Author.Rules.{rules}
-use lib.ListN.{length, drop}
+use lib.ListN.{length}
 use Rattle.arrays.proofs.Laws.{long_map}
 use Rattle.saved_record.proofs.Laws.{used, used_clamped, used_length}
 use Rattle.replay_page.specs.Page.{page}
-use Rattle.replay_cars.specs.Cars.{each_car}
 use Rattle.replay_cars.proofs.Laws.{no_cars, some_cars, cars_again, cars_end}
 use Rattle.replay_cars.proofs.put_cars.Goals as goal
 
@@ -32,8 +30,8 @@ loop-i-preserved c =
     let put = c.put_car-k in (
       loop.invariant.0,
       loop.invariant.1,
-      put.auto.0 ∙ loop.invariant.2,
-      cars_again n a.s.cars loop.invariant.0 loop.i (page a.out.now a.at) (page loop.out loop.k) loop.invariant.3 (page put.new.0 put.result) c.loop-i-test.true put.ensures,
+      put.auto.out ∙ loop.invariant.2,
+      cars_again n a.s.cars loop.invariant.0 loop.i (page a.out.now a.at) (page loop.out loop.k) loop.invariant.3 (page put.new.out put.result) c.loop-i-test.true put.ensures,
     )
 
 pub returns : goal.returns

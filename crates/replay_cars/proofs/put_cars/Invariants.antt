@@ -1,14 +1,10 @@
 -- The loop's invariant: what is left of the cars, written from here on, makes what is to be written.
-use mathlib.Core.Path.{◌≡◌, refl, sym, ◌∙◌}
+use mathlib.Core.Path.{◌≡◌}
 use Prim.Native.Nat.{◌≤◌, ◌-◌}
-use native.Mathlib.Omega.{arith}
-use borrow.Author.Rules.{rules}
 use lib.ListN.{length, drop}
-use Rattle.arrays.proofs.Laws.{long_map}
-use Rattle.saved_record.proofs.Laws.{used, used_clamped, used_length}
+use Rattle.saved_record.proofs.Laws.{used}
 use Rattle.replay_page.specs.Page.{page}
 use Rattle.replay_cars.specs.Cars.{each_car}
-use Rattle.replay_cars.proofs.Laws.{no_cars, some_cars, cars_again, cars_end}
 use Rattle.replay_cars.proofs.put_cars.Given as goal
 
 abbrev pub invariant-loop-i : goal.invariant-loop-i

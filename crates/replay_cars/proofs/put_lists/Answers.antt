@@ -1,4 +1,3 @@
-use borrow.Author.Rules.{rules}
 use Rattle.replay_lines.specs.Table.{keys, key_names}
 use Rattle.replay_cars.specs.Cars.{lists}
 use Rattle.replay_cars.proofs.put_lists.Goals as goal

@@ -1,4 +1,3 @@
-use borrow.Author.Rules.{rules}
 use Rattle.replay_lines.specs.Table.{keys, key_names, words, word_names}
 use Rattle.replay_cars.specs.Cars.{no_car}
 use Rattle.replay_cars.proofs.put_no_car.Goals as goal
