@@ -1,4 +1,3 @@
-use borrow.Author.Rules.{rules}
 use Rattle.definition.specs.Gate.{take_phone_validations_save, saving, bytes}
 use Rattle.outcomes.proofs.Laws.{lent_as_lem, by_save}
 use Rattle.gate_phones.proofs.take_phone_validations_save.Goals as goal

@@ -1,5 +1,4 @@
 use mathlib.Core.Path.{refl}
-use borrow.Author.Rules.{rules}
 use Rattle.state.specs.View.{view}
 use Rattle.outcomes.specs.Served.{kept_on}
 use Rattle.gate_phones.proofs.taken.Goals as goal
