@@ -1,13 +1,13 @@
 -- The room that the whole state of a gate takes.
 use mathlib.Core.Bool.{false}
 use mathlib.Core.List.{List}
-use Prim.Native.Nat.{ℕ, zero, suc, ◌+◌, ◌*◌, ◌≤◌}
+use Prim.Native.Nat.{ℕ, zero, suc, ◌*◌, ◌≤◌}
 use native.Mathlib.Nat.{le_of_eq}
 use native.Mathlib.Omega.{arith}
 use lib.Dec.{eqb, ltb, lit≤}
 use lib.ListN.{length, get_or}
 use mir.Val.{Val}
-use borrow.Author.Rules.{rules, length_unmapped}
+use borrow.Author.Rules.{rules}
 use Rattle.ascii.specs.Ascii.{ascii}
 use Rattle.phones.specs.declared.ShortId.{ShortId}
 use Rattle.phones.specs.contracts.ShortId as ShortId
@@ -32,7 +32,6 @@ use Rattle.state.specs.contracts.Policy as Policy
 use Rattle.state.specs.contracts.Queue as Queue
 use Rattle.state.specs.contracts.Save as Save
 use Rattle.state.specs.contracts.Settings as Settings
-use Rattle.state.specs.contracts.Validation as Validation
 use Rattle.replay_page.specs.Room.{Within}
 use Rattle.replay_lines.proofs.AnswerRoom.{Owned, method_ids}
 use Rattle.replay_page.proofs.Room.{◌⊕◌, upto, either, same, text_in, known_in, comma_in, item_in, flag_in_lem, word_in}
@@ -108,7 +107,7 @@ unfolding gate
 gate_in g vs h =
     let core = h.1.1.0 in
     let v = core.1.1.1.1.1.1.0 in
-    let code = le_of_eq (length_unmapped ℕ g.code 9 h.1.1.1.1.1.1.0.1.0.1) in
+    let code = le_of_eq h.1.1.1.1.1.1.0.1.0.1 in
     front_in g.core g.phones _ _ core h.1.1.1.0 ⊕ session_in g _ v.1.1.0 code
     ⊕ item_in (ascii " cooldown_until=") g.core.validation.cooldown_until v.1.1.1.0.1 ⊕ item_in (ascii " next_session=") g.core.validation.next (omega (arith, v.1.1.1.1.0.1))
     ⊕ item_in (ascii " tries_left=") g.core.validation.tries (omega (arith, v.1.1.1.1.1.0.1)) ⊕ probe_in g.core.probe _ core.1.1.1.1.1.1.1.0

@@ -1,4 +1,3 @@
-use borrow.Author.Rules.{rules}
 use Rattle.replay_state.specs.Whole.{front}
 use Rattle.replay_state.proofs.put_front.Goals as goal
 

@@ -1,4 +1,3 @@
-use mathlib.Core.Path.{◌∙◌}
 use Rattle.replay_state.specs.Whole.{policy}
 use Rattle.replay_state.proofs.put_policy.Goals as goal
 
