@@ -34,7 +34,6 @@ use Rattle.pairing.specs.Pairing as Pairing
 use Rattle.save.specs.Save.{Saving, no_save, opening, taking}
 use Rattle.waiting_list.specs.declared.Waiting.{Waiting}
 use Rattle.can_queue.specs.Calls as CanQueue
-use Rattle.can_turns.specs.Turns as CanTurns
 use Rattle.can_queue.specs.Calls.{Sending}
 use Rattle.can_turns.specs.Turns.{Serving, serving, report_of}
 use Rattle.validations.specs.Store as Validations
