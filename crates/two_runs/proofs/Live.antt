@@ -23,7 +23,6 @@ use Rattle.state.specs.declared.Challenge.{Challenge}
 use Rattle.state.specs.declared.Core.{Core}
 use Rattle.state.specs.declared.Gate.{Gate}
 use Rattle.state.specs.declared.Answer.{Answer}
-use Rattle.state.specs.declared.Answer.TheVariants as Answer
 use Rattle.state.specs.Parts.{with_policy}
 use Rattle.state.specs.Running as Running
 use Rattle.state.specs.Checks.{checked}

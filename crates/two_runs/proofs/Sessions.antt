@@ -12,7 +12,6 @@ use Rattle.state.specs.declared.Kind.TheVariants.{CodeEntry, InCarAction}
 use Rattle.state.specs.declared.Session.{Session}
 use Rattle.state.specs.declared.Core.{Core}
 use Rattle.state.specs.declared.Answer.{Answer}
-use Rattle.state.specs.declared.Answer.TheVariants as Answer
 use Rattle.state.specs.declared.Mark.TheVariants.{Blank, Fresh}
 use Rattle.state.specs.declared.Said.{Said}
 use Rattle.state.specs.declared.Ended.{Ended}

@@ -7,7 +7,7 @@ use Rattle.state.specs.declared.Gate.{Gate}
 use Rattle.state.specs.Answers.{Values, no_value, done, yes, no, none, count, platform, reason, seconds, session, taken, is_yes}
 use Rattle.answers.specs.Query.{numbered_reply}
 use Rattle.definition.specs.Gate.{PackedReply, SessionCall, cancel_validation, complete_validation_action, tick_validation, Call, new_gate_call, start_validation, submit_validation_code, on_session, on_lists, on_save, on_queue, on_core, ask}
-use Rattle.two_runs.specs.Demand.{number_of, Tally, Within, Every, parts}
+use Rattle.two_runs.specs.Demand.{number_of, Within, Every, parts}
 
 -- ---- the calls that refill: New gate, and a session's end as Succeeded or as Failed
 
