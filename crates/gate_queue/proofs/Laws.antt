@@ -20,7 +20,7 @@ use Rattle.can_turns.specs.Turns.{Serving, no_turn, serving, report_of}
 use Rattle.can_turns.specs.Steps.{run_of}
 use Rattle.can_queue.proofs.Laws.{sending_other}
 use Rattle.can_turns.proofs.Laws.{serving_other}
-use Rattle.definition.specs.Gate.{send_can_frame, serve_can_frames, on_queue, records, Says, of_sending, of_serving, asked, served, queueing, says, gives, left, packed, step, lent_records, ran_given}
+use Rattle.definition.specs.Gate.{send_can_frame, serve_can_frames, on_queue, records, of_sending, of_serving, asked, served, queueing, says, gives, left, packed, step, lent_records, ran_given}
 use Rattle.outcomes.specs.Settled.{queued}
 use Rattle.state.specs.declared.Outcome.{Outcome}
 use Rattle.state.specs.declared.Ran.{Ran}

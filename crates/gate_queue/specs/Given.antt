@@ -1,6 +1,5 @@
 -- What functions of the code give.
 use Rattle.std.specs.Prelude.{cond, List, [], ℕ}
-use Rattle.phones.specs.Ids.{afterwards}
 use Rattle.frames.specs.declared.CanFrame.{CanFrame}
 use Rattle.frames.specs.declared.TxClass.{TxClass}
 use Rattle.waiting_list.specs.declared.Waiting.{Waiting}

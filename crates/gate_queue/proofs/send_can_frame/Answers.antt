@@ -1,5 +1,5 @@
 use borrow.Author.Tests.{ne_eqb}
-use Rattle.std.proofs.Common.{◌≡◌, ◌∙◌, ap, length}
+use Rattle.std.proofs.Common.{◌∙◌, ap, length}
 use Rattle.state.specs.declared.Outcome.{Outcome}
 use Rattle.definition.specs.Gate.{lent_records}
 use Rattle.gate_queue.proofs.Laws.{sends_by, sends_none}
