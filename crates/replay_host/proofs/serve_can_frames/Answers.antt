@@ -8,7 +8,7 @@ use Rattle.replay_host.proofs.serve_can_frames.Goals as goal
 pub returns-then-h-eq16 : goal.returns-then-h-eq16
 returns-then-h-eq16 c =
     let s = c.serve_sixteen-s in
-    let few : length s.result.all ≡ 16 = search (rules, long_map, s.type-inv) in
+    let few : length s.result.all ≡ 16 = search (rules, long_map, s.type_inv) in
     serves_sixteen c.args.h c.if-h-eq16.true _ c.sixteen-all.ensures _ _ _ s.result s.ensures few c.with_sixteen-list.ensures
 
 pub returns : goal.returns

@@ -1,10 +1,8 @@
 use mathlib.Core.Path.{◌≡◌, refl, ap, ◌∙◌}
-use mathlib.Core.List.{List, ◌++◌}
-use Prim.Native.Nat.{◌≤◌, ◌-◌}
+use mathlib.Core.List.{List}
 use native.Mathlib.Numerals.{add-one}
 use native.Mathlib.Omega.{arith}
-use borrow.Author.Rules.{rules}
-use lib.ListN.{length, take, drop, set}
+use lib.ListN.{set}
 use Rattle.waiting_list.specs.declared.Waiting.{Waiting}
 use Rattle.waiting_list.specs.Queue.{blank, record_at}
 use Rattle.replay_host.proofs.Laws.{copied, copied_all}

@@ -1,14 +1,8 @@
 -- The invariant: the first i places hold what the list holds there.
-use mathlib.Core.Path.{◌≡◌, refl, ap, ◌∙◌}
-use mathlib.Core.List.{List, ◌++◌}
+use mathlib.Core.Path.{◌≡◌}
+use mathlib.Core.List.{◌++◌}
 use Prim.Native.Nat.{◌≤◌, ◌-◌}
-use native.Mathlib.Numerals.{add-one}
-use native.Mathlib.Omega.{arith}
-use borrow.Author.Rules.{rules}
-use lib.ListN.{length, take, drop, set}
-use Rattle.waiting_list.specs.declared.Waiting.{Waiting}
-use Rattle.waiting_list.specs.Queue.{blank, record_at}
-use Rattle.replay_host.proofs.Laws.{copied, copied_all}
+use lib.ListN.{length, take, drop}
 use Rattle.replay_host.proofs.sixteen.Given as goal
 
 abbrev pub invariant-loop-i : goal.invariant-loop-i
