@@ -1,5 +1,5 @@
 -- `Fair`: a run, any call, and any calls.
-use Prim.Native.Nat.{ℕ, zero, suc, ◌+◌, ◌-◌, ◌<◌, ◌≤◌, min}
+use Prim.Native.Nat.{ℕ, zero, suc, ◌-◌, ◌<◌, ◌≤◌, min}
 use mathlib.Core.Path.{◌≡◌, refl, sym, ap, ap₂, ◌∙◌, subst, subst₂}
 use mathlib.Core.Bool.{Bool, true, false, false≢true, and-eq-true_iff}
 use mathlib.Core.List.{List, [], ◌∷◌, ◌++◌, append-nil}
@@ -31,7 +31,7 @@ use Rattle.definition.specs.Gate.{PackedReply, Call, Says, saying, served, savin
 use Rattle.footprint.proofs.Keeps.{either}
 use Rattle.stays_in_range.proofs.Parts.{if_checked}
 use Rattle.stays_in_range.proofs.Queue.{neither, queue_in}
-use Rattle.fair_turns.specs.Turns.{Host, count_of, list_after, host_after, TakesTurns, serve, report_in, reported, entries, next_of}
+use Rattle.fair_turns.specs.Turns.{Host, count_of, list_after, host_after, TakesTurns, serve, report_in, entries, next_of}
 use Rattle.fair_turns.specs.Fair.{goes_on, Lends, Unaltered, end, next, Took, no_turns, places_of, took, all_took, turns_until, bound, InTime, Fair}
 use Rattle.fair_turns.proofs.Ranged.{host_of}
 use Rattle.fair_turns.proofs.Runs.{run_of, before_is, entries_are, run_length, run_count}

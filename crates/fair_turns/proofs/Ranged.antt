@@ -33,7 +33,6 @@ use Rattle.phone_trust.specs.Trust.{is_paired, is_validated}
 use Rattle.can_tx.specs.Tx as Tx
 use Rattle.can_turns.specs.Turns.{Serving, owner_validated, turn}
 use Rattle.definition.specs.Gate.{saying, served, said, says, left, gives, step}
-use Rattle.footprint.specs.Footprint.{probe}
 use Rattle.footprint.proofs.Keeps.{either, each_check}
 use Rattle.footprint.proofs.Core.{allow_keeps}
 use Rattle.stays_in_range.proofs.Queue.{queue_in, queue_fits_lem}
