@@ -1,5 +1,4 @@
 -- The fields of the array are those of the definition, which antt computes.
-use borrow.Author.Rules.{rules}
 use Rattle.replay_lines.specs.Table.{keys, key_names}
 use Rattle.replay_lines.specs.Fields.{put_fields}
 use Rattle.replay_answers.specs.Query.{access}

@@ -1,9 +1,6 @@
 use mathlib.Core.Path.{◌≡◌, refl, ◌∙◌}
-use Prim.Native.Nat.{◌≤◌, ◌-◌}
 use native.Mathlib.Numerals.{add-one}
 use native.Mathlib.Omega.{arith}
-use lib.ListN.{length}
-use Rattle.replay_page.specs.Page.{page}
 use Rattle.replay_answers.specs.Query.{methods_to}
 use Rattle.replay_answers.proofs.put_method_list.Goals as goal
 
@@ -16,7 +13,7 @@ unfolding methods_to
 loop-i-preserved c =
     let f = c.put_method_at-k in
     let l = c.loop-i in
-    (omega arith, f.auto.0 ∙ l.invariant.1, rw (f.ensures, l.invariant.2, add-one))
+    (omega arith, f.auto.out ∙ l.invariant.1, rw (f.ensures, l.invariant.2, add-one))
 
 pub returns : goal.returns
 unfolding methods_to

@@ -1,4 +1,3 @@
-use borrow.Author.Rules.{rules}
 use Rattle.replay_answers.specs.Query.{told}
 use Rattle.replay_answers.proofs.put_told.Goals as goal
 
