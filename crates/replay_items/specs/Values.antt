@@ -1,8 +1,7 @@
 -- The values of single items, each with whether it stands in the line once and is of its form; otherwise it is zero or no.
-use Rattle.std.specs.Prelude.{Bool, true, false, cond, ◌&&◌, List, ℕ}
+use Rattle.std.specs.Prelude.{true, false, cond, ◌&&◌, List, ℕ}
 use Rattle.ascii.specs.Ascii.{ascii}
 use Rattle.frames.specs.declared.Id.TheVariants.{Standard}
-use Rattle.frames.specs.declared.TxClass.{TxClass}
 use Rattle.frames.specs.declared.TxClass.TheVariants.{Platform, Command}
 use Rattle.replay_script.specs.Places.{item_of}
 use Rattle.replay_values.specs.Values.{the_number, the_flag, is_the_word, the_id, the_data}

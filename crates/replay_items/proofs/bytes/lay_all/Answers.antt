@@ -1,6 +1,4 @@
 -- Each of those that fit together is laid down behind the ones before it.
-use borrow.Author.Rules.{rules}
-use mathlib.Core.Path.{◌∙◌}
 use mathlib.Core.List.{[], ◌++◌}
 use native.Mathlib.Nat.{le_trans}
 use Rattle.ascii.specs.Ascii.{ascii}

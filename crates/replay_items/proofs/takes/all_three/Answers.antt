@@ -1,4 +1,3 @@
-use borrow.Author.Rules.{rules}
 use Rattle.replay_items.proofs.takes.all_three.Goals as goal
 
 pub returns-then-a : goal.returns-then-a

@@ -1,5 +1,4 @@
 use Rattle.replay_items.specs.Values.{class_at}
-use borrow.Author.Rules.{rules}
 use Rattle.replay_items.proofs.values.class.Goals as goal
 
 pub returns-then-is_word : goal.returns-then-is_word

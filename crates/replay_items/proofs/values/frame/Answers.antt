@@ -1,5 +1,4 @@
 use Rattle.replay_items.specs.Values.{frame_at}
-use borrow.Author.Rules.{rules}
 use Rattle.replay_items.proofs.values.frame.Goals as goal
 
 pub returns : goal.returns

@@ -1,5 +1,4 @@
 use Rattle.replay_items.specs.Values.{switches_at}
-use borrow.Author.Rules.{rules}
 use Rattle.replay_items.proofs.values.switches.Goals as goal
 
 pub returns : goal.returns
