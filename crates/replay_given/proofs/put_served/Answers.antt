@@ -9,4 +9,4 @@ returns c =
     let h = c.args.h in
     let s = c.serve_can_frames-s in
     lays_as _ _ (laid_served h s.result.list s.ensures.rest s.result.ran _ s.ensures.gives) _ _ _
-    (rw (c.with_gate-host.ensures, c.with_list-next.ensures, ← c.put_report-k.ensures, ← c.put_signals-k.ensures), served_fits h s.result.list s.result.ran _ s.type-inv.1.1.0)
+    (rw (c.with_gate-host.ensures, c.with_list-next.ensures, ← c.put_report-k.ensures, ← c.put_signals-k.ensures), served_fits h s.result.list s.result.ran _ s.type_inv.1.1.0)

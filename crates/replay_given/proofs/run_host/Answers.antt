@@ -10,32 +10,27 @@ use Rattle.replay_given.proofs.run_host.Goals as goal
 
 pub returns-in-0 : goal.returns-in-0
 unfolding ran lent_bytes host_line host_lines
-returns-in-0 c = rw (c.in-0.keys1, ← c.lent-owner.ensures) c.put_sent.ensures
+returns-in-0 c = rw (c.in-0.is, ← c.lent-owner.ensures) c.put_sent.ensures
 
 pub returns-in-1 : goal.returns-in-1
 unfolding ran lent_bytes host_line host_lines
-returns-in-1 c = rw c.in-1.keys2 c.put_served.ensures
+returns-in-1 c = rw c.in-1.is c.put_served.ensures
 
 pub returns-in-2 : goal.returns-in-2
 unfolding ran lent_bytes host_line host_lines
-returns-in-2 c = rw c.in-2.keys3 (rw c.with_lent.ensures at c.put_done.ensures)
+returns-in-2 c = rw c.in-2.is (rw c.with_lent.ensures at c.put_done.ensures)
 
 pub returns-in-3 : goal.returns-in-3
 unfolding ran lent_bytes host_line host_lines
-returns-in-3 c = rw (c.in-3.keys4, ← c.lent-owner.ensures) (rw (c.with_record.ensures, c.record_of-w.ensures) at c.put_done-in-3.ensures)
+returns-in-3 c = rw (c.in-3.is, ← c.lent-owner.ensures) (rw (c.with_record.ensures, c.record_of-w.ensures) at c.put_done-in-3.ensures)
 
 pub returns-in-4 : goal.returns-in-4
 unfolding ran lent_bytes host_line host_lines
-returns-in-4 c = rw c.in-4.keys5 c.put_list.ensures
+returns-in-4 c = rw c.in-4.is c.put_list.ensures
 
 pub returns-in_default : goal.returns-in_default
 unfolding ran host_line host_lines
 returns-in_default c =
     let a = c.args in
-    let four = c.in_default.rest.1 in
-    let three = c.in_default.rest.0.1 in
-    let two = c.in_default.rest.0.0.1 in
-    let one = c.in_default.rest.0.0.0.1 in
-    let zero = c.in_default.rest.0.0.0.0.1 in
     let h : 5 ≤ a.name = omega arith in
     rw (get_or-eq_default (host_lines a.i (lent_bytes a.p a.room.now)) unknown h) (rw c.not_called.ensures, same turn_room)

@@ -9,12 +9,12 @@ play_line-r-requires c = search rules
 
 pub returns-then-r : goal.returns-then-r
 unfolding with_state
-returns-then-r c = let f = c.play_line-r in let l = f.ensures in (rw (← l.0, c.if-states.true, c.if-r.true, ← c.put_state.ensures), l.1, line_fits c.args.states c.args.number c.ranges.number.fits c.args.h _ _ _ f.result l.0 l.2 _ f.type-inv)
+returns-then-r c = let f = c.play_line-r in let l = f.ensures in (rw (← l.0, c.if-states.true, c.if-r.true, ← c.put_state.ensures), l.1, line_fits c.args.states c.args.number c.ranges.number.fits c.args.h _ _ _ f.result l.0 l.2 _ f.type_inv)
 
 pub returns-else-r : goal.returns-else-r
 unfolding with_state
-returns-else-r c = let f = c.play_line-r in let l = f.ensures in (rw (← l.0, c.if-states.true, c.if-r.false), l.1, line_fits c.args.states c.args.number c.ranges.number.fits c.args.h _ _ _ f.result l.0 l.2 _ f.type-inv)
+returns-else-r c = let f = c.play_line-r in let l = f.ensures in (rw (← l.0, c.if-states.true, c.if-r.false), l.1, line_fits c.args.states c.args.number c.ranges.number.fits c.args.h _ _ _ f.result l.0 l.2 _ f.type_inv)
 
 pub returns-else-states : goal.returns-else-states
 unfolding with_state
-returns-else-states c = let f = c.play_line-r in let l = f.ensures in (rw (← l.0, c.if-states.false), l.1, line_fits c.args.states c.args.number c.ranges.number.fits c.args.h _ _ _ f.result l.0 l.2 _ f.type-inv)
+returns-else-states c = let f = c.play_line-r in let l = f.ensures in (rw (← l.0, c.if-states.false), l.1, line_fits c.args.states c.args.number c.ranges.number.fits c.args.h _ _ _ f.result l.0 l.2 _ f.type_inv)

@@ -29,4 +29,4 @@ returns c =
     let quiet = ap (λ (d : Given). d.signals) gave ∙ save_quiet c.args.h.gate (take_phone_validations_save c.args.lent.now) in
     let shown = rw (left_back _ _ left copied f.auto.1.0) at c.put_output-k.ensures in
     rw (← gave)
-    (rw (quiet, ← c.put_answer-k.ensures, ← shown, ← c.with_gate-next.ensures) c.put_calm.ensures.0, quiet_fits c.args.h f.result _ f.type-inv quiet left (left_few _ _ left copied f.auto.1.0 _ c.requires))
+    (rw (quiet, ← c.put_answer-k.ensures, ← shown, ← c.with_gate-next.ensures) c.put_calm.ensures.0, quiet_fits c.args.h f.result _ f.type_inv quiet left (left_few _ _ left copied f.auto.1.0 _ c.requires))

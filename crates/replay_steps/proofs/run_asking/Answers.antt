@@ -16,7 +16,7 @@ returns-then-name-lt-PLAIN_QUERIES c =
     let f = c.plain_query-a in
     let k = c.put_calm.ensures in
     rw (asking_plain a.i (lent_bytes a.p a.room.now) a.name c.if-name-lt-PLAIN_QUERIES.true)
-    (rw (laid_ask a.h, ← plain_shown a.h.gate q f.result f.ensures, ← c.put_answer-k.ensures) k.0, ask_fits a.h q (plain_in a.h.gate q f.result f.ensures _ f.type-inv) k.1)
+    (rw (laid_ask a.h, ← plain_shown a.h.gate q f.result f.ensures, ← c.put_answer-k.ensures) k.0, ask_fits a.h q (plain_in a.h.gate q f.result f.ensures _ f.type_inv) k.1)
 
 pub returns-then-long-lt-LONG_QUERIES : goal.returns-then-long-lt-LONG_QUERIES
 unfolding ran
