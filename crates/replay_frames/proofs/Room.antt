@@ -48,7 +48,7 @@ frame_in_lem f h =
 each_decided : (d : Decided) (vs : List Val) → Owned Decided.the_field d vs → FrameFits d.frame
 each_decided d vs h = (omega arith, omega arith, le_of_eq (search rules))
 
-decided_fit : (l : List Decided) (us : List Val) → shadow (each (Decided.the_field).row.Denot (Decided.the_field).row.own_val (map (Decided.the_field).into l) us)
+decided_fit : (l : List Decided) (us : List Val) → shadow (each (Decided.the_row).Denot (Decided.the_row).own_val l us)
     → (i : ℕ) → FrameFits (get_or l i none_decided).frame
 decided_fit [] us h i = (lit< tt, lit< tt, lit≤ tt)
 decided_fit (d ∷ ds) [] h i = absurd h
@@ -79,7 +79,7 @@ WaitingFits w = FrameFits w.frame × (length w.owner.bytes ≤ 32)
 each_waiting : (w : Waiting) (vs : List Val) → Owned Waiting.the_field w vs → WaitingFits w
 each_waiting w vs h = ((omega arith, omega arith, le_of_eq (search rules)), le_of_eq (search rules))
 
-waiting_fit : (l : List Waiting) (us : List Val) → shadow (each (Waiting.the_field).row.Denot (Waiting.the_field).row.own_val (map (Waiting.the_field).into l) us)
+waiting_fit : (l : List Waiting) (us : List Val) → shadow (each (Waiting.the_row).Denot (Waiting.the_row).own_val l us)
     → (i : ℕ) → WaitingFits (record_at l i)
 waiting_fit [] us h i = ((lit< tt, lit< tt, lit≤ tt), lit≤ tt)
 waiting_fit (w ∷ ws) [] h i = absurd h
@@ -104,7 +104,7 @@ pub done_in : Within 10 (answer Done)
 unfolding answer
 done_in = word_in (ascii " answer=") (ascii "ok") 2 (lit≤ tt)
 
-pub lent_list_in : (l : List Waiting) (lent : ℕ) → lent < 2 ^ 64 → (us : List Val) → shadow (each (Waiting.the_field).row.Denot (Waiting.the_field).row.own_val (map (Waiting.the_field).into l) us)
+pub lent_list_in : (l : List Waiting) (lent : ℕ) → lent < 2 ^ 64 → (us : List Val) → shadow (each (Waiting.the_row).Denot (Waiting.the_row).own_val l us)
     → Within 2529 (lent_list l lent)
 unfolding lent_list
 lent_list_in l lent small us h =

@@ -16,7 +16,7 @@ unfolding decided_to
 loop-i-preserved c =
     let f = c.put_decided_at-k in
     let l = c.loop-i in
-    (omega arith, f.auto.0 ∙ l.invariant.1, rw (f.ensures, l.invariant.2, add-one))
+    (omega arith, f.auto.out ∙ l.invariant.1, rw (f.ensures, l.invariant.2, add-one))
 
 pub returns : goal.returns
 unfolding decided_to
