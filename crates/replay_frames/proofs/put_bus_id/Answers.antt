@@ -1,5 +1,4 @@
 use Rattle.replay_frames.specs.Frames.{bus_id}
-use borrow.Author.Rules.{rules}
 use Rattle.replay_frames.proofs.put_bus_id.Goals as goal
 
 pub returns : goal.returns

@@ -1,5 +1,4 @@
 use Rattle.replay_frames.specs.Frames.{decided}
-use borrow.Author.Rules.{rules}
 use Rattle.replay_frames.proofs.put_decided.Goals as goal
 
 pub returns : goal.returns

@@ -1,9 +1,6 @@
 use mathlib.Core.Path.{◌≡◌, refl, ◌∙◌}
-use Prim.Native.Nat.{◌≤◌, ◌-◌}
 use native.Mathlib.Numerals.{add-one}
 use native.Mathlib.Omega.{arith}
-use lib.ListN.{length}
-use Rattle.replay_page.specs.Page.{page}
 use Rattle.replay_frames.specs.Frames.{decided_to}
 use Rattle.replay_frames.proofs.put_decided_list.Goals as goal
 

@@ -1,6 +1,5 @@
 use Rattle.replay_lines.specs.Table.{keys, key_names}
 use Rattle.replay_frames.specs.Frames.{lent_list}
-use borrow.Author.Rules.{rules}
 use Rattle.replay_frames.proofs.put_lent_list.Goals as goal
 
 pub returns : goal.returns

@@ -1,4 +1,3 @@
-use borrow.Author.Rules.{rules}
 use Rattle.replay_lines.specs.Table.{keys, key_names}
 use Rattle.replay_lines.specs.Fields.{put_fields}
 use Rattle.replay_answers.specs.Query.{told}
