@@ -13,72 +13,72 @@ overflow_cast-place c = search rules
 
 pub returns-in-1 : goal.returns-in-1
 unfolding lent_bytes can_call can_calls
-returns-in-1 c = rw c.in-1.keys1 c.revoke_can_read_write_approval.ensures
+returns-in-1 c = rw c.in-1.is c.revoke_can_read_write_approval.ensures
 
 pub returns-in-2 : goal.returns-in-2
 unfolding lent_bytes can_call can_calls
-returns-in-2 c = rw c.in-2.keys2 c.restore_can_read_write_approval.ensures
+returns-in-2 c = rw c.in-2.is c.restore_can_read_write_approval.ensures
 
 pub returns-in-3 : goal.returns-in-3
 unfolding lent_bytes can_call can_calls
-returns-in-3 c = rw c.in-3.keys3 c.set_can_dev_write_unlocked.ensures
+returns-in-3 c = rw c.in-3.is c.set_can_dev_write_unlocked.ensures
 
 pub returns-in-4 : goal.returns-in-4
 unfolding lent_bytes can_call can_calls
-returns-in-4 c = rw c.in-4.keys4 c.declare_production_build.ensures
+returns-in-4 c = rw c.in-4.is c.declare_production_build.ensures
 
 pub returns-in-5 : goal.returns-in-5
 unfolding lent_bytes can_call can_calls
-returns-in-5 c = rw c.in-5.keys5 c.confirm_car_identity.ensures
+returns-in-5 c = rw c.in-5.is c.confirm_car_identity.ensures
 
 pub returns-in-6 : goal.returns-in-6
 unfolding lent_bytes can_call can_calls
-returns-in-6 c = rw c.in-6.keys6 c.revoke_car_identity.ensures
+returns-in-6 c = rw c.in-6.is c.revoke_car_identity.ensures
 
 pub returns-in-7 : goal.returns-in-7
 unfolding lent_bytes can_call can_calls
-returns-in-7 c = rw (c.in-7.keys7, ← c.lent-print.ensures) c.confirm_car_fingerprint.ensures
+returns-in-7 c = rw (c.in-7.is, ← c.lent-print.ensures) c.confirm_car_fingerprint.ensures
 
 pub returns-in-8 : goal.returns-in-8
 unfolding lent_bytes can_call can_calls
-returns-in-8 c = rw c.in-8.keys8 c.set_can_read_only.ensures
+returns-in-8 c = rw c.in-8.is c.set_can_read_only.ensures
 
 pub returns-in-9 : goal.returns-in-9
 unfolding lent_bytes can_call can_calls
-returns-in-9 c = rw c.in-9.keys9 c.open_identity_probe.ensures
+returns-in-9 c = rw c.in-9.is c.open_identity_probe.ensures
 
 pub returns-in-10 : goal.returns-in-10
 unfolding lent_bytes can_call can_calls
-returns-in-10 c = rw c.in-10.keys10 c.close_identity_probe.ensures
+returns-in-10 c = rw c.in-10.is c.close_identity_probe.ensures
 
 pub returns-in-11 : goal.returns-in-11
 unfolding lent_bytes can_call can_calls
-returns-in-11 c = rw (c.in-11.keys11, ← c.lent-owner.ensures) c.allow_can_tx.ensures
+returns-in-11 c = rw (c.in-11.is, ← c.lent-owner.ensures) c.allow_can_tx.ensures
 
 pub returns-in-12 : goal.returns-in-12
 unfolding lent_bytes can_call can_calls
-returns-in-12 c = rw c.in-12.keys12 c.heard_can_frame.ensures
+returns-in-12 c = rw c.in-12.is c.heard_can_frame.ensures
 
 pub returns-in-13 : goal.returns-in-13
 unfolding lent_bytes can_call can_calls
-returns-in-13 c = rw c.in-13.keys13 c.note_platform_id.ensures
+returns-in-13 c = rw c.in-13.is c.note_platform_id.ensures
 
 pub returns-in-14 : goal.returns-in-14
 unfolding lent_bytes can_call can_calls
-returns-in-14 c = rw c.in-14.keys14 c.note_can_logging.ensures
+returns-in-14 c = rw c.in-14.is c.note_can_logging.ensures
 
 pub returns-in-15 : goal.returns-in-15
 unfolding lent_bytes can_call can_calls
-returns-in-15 c = rw c.in-15.keys15 c.note_can_fd_bus.ensures
+returns-in-15 c = rw c.in-15.is c.note_can_fd_bus.ensures
 
 pub returns-in-16 : goal.returns-in-16
 unfolding lent_bytes can_call can_calls
-returns-in-16 c = rw c.in-16.keys16 c.note_method_available.ensures
+returns-in-16 c = rw c.in-16.is c.note_method_available.ensures
 
 pub returns-in-17 : goal.returns-in-17
 unfolding lent_bytes can_call can_calls
-returns-in-17 c = rw c.in-17.keys17 c.note_method_can_continue.ensures
+returns-in-17 c = rw c.in-17.is c.note_method_can_continue.ensures
 
 pub returns-in_default : goal.returns-in_default
 unfolding lent_bytes can_call can_calls
-returns-in_default c = let a = c.args in rw (else_first (can_calls a.i (lent_bytes a.p a.room.now)) (on_core approve_can_read_write) a.name refl c.in_default.rest) c.approve_can_read_write.ensures
+returns-in_default c = let a = c.args in rw (else_first (can_calls a.i (lent_bytes a.p a.room.now)) (on_core approve_can_read_write) a.name refl (search rules)) c.approve_can_read_write.ensures

@@ -1,4 +1,5 @@
 -- Each arm: its number, the phone where it takes one, and what its query ensures.
+use borrow.Author.Rules.{rules}
 use mathlib.Core.Path.{refl}
 use Rattle.answers.specs.Query.{is_can_read_only}
 use Rattle.replay_items.specs.Bytes.{lent_bytes}

@@ -14,19 +14,19 @@ pub slice_bounds-take_phone_validations_save-end : goal.slice_bounds-take_phone_
 slice_bounds-take_phone_validations_save-end c = sym (ap length c.copy_of-copy.ensures)
 
 pub slice_bounds-copy-end-2 : goal.slice_bounds-copy-end-2
-slice_bounds-copy-end-2 c = let f = c.take_phone_validations_save-o in left_inside _ _ f.new.1.0 c.copy_of-copy.ensures f.auto.1.0
+slice_bounds-copy-end-2 c = let f = c.take_phone_validations_save-o in left_inside _ _ f.new.out c.copy_of-copy.ensures f.auto.out
 
 pub slice_bounds-put_output-end : goal.slice_bounds-put_output-end
-slice_bounds-put_output-end c = let f = c.take_phone_validations_save-o in left_whole _ _ f.new.1.0 c.copy_of-copy.ensures f.auto.1.0
+slice_bounds-put_output-end c = let f = c.take_phone_validations_save-o in left_whole _ _ f.new.out c.copy_of-copy.ensures f.auto.out
 
 pub returns : goal.returns
 unfolding ran laid
 returns c =
     let f = c.take_phone_validations_save-o in
     let copied = c.copy_of-copy.ensures in
-    let left = f.new.1.0 in
+    let left = f.new.out in
     let gave = rw copied at f.ensures in
     let quiet = ap (λ (d : Given). d.signals) gave ∙ save_quiet c.args.h.gate (take_phone_validations_save c.args.lent.now) in
-    let shown = rw (left_back _ _ left copied f.auto.1.0) at c.put_output-k.ensures in
+    let shown = rw (left_back _ _ left copied f.auto.out) at c.put_output-k.ensures in
     rw (← gave)
-    (rw (quiet, ← c.put_answer-k.ensures, ← shown, ← c.with_gate-next.ensures) c.put_calm.ensures.0, quiet_fits c.args.h f.result _ f.type_inv quiet left (left_few _ _ left copied f.auto.1.0 _ c.requires))
+    (rw (quiet, ← c.put_answer-k.ensures, ← shown, ← c.with_gate-next.ensures) c.put_calm.ensures.0, quiet_fits c.args.h f.result _ f.type_inv quiet left (left_few _ _ left copied f.auto.out _ c.requires))
