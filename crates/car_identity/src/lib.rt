@@ -34,6 +34,7 @@ pub fn revoke_car_identity(core: Core) -> Said
     policy_changes::policy_changed(c, Answer::Done, p)
 }
 
+#[tactic(auto, unfolding(crate::specs::CarIdentity::confirm_fingerprint, state::specs::Checks::checked))]
 pub fn confirm_car_fingerprint(core: Core, fingerprint: &[u8]) -> Said
     ensures { result ≡ confirm_fingerprint core fingerprint.now }
 {
