@@ -1,4 +1,4 @@
-use Rattle.std.proofs.Common.{◌≡◌, ap}
+use Rattle.std.proofs.Common.{ap}
 use Rattle.definition.specs.Gate.{Given}
 use Rattle.bench_calls.specs.Rounds.{heard}
 use Rattle.bench_calls.proofs.encoded.Goals as goal

@@ -1,4 +1,3 @@
-use Rattle.std.proofs.Common.{arith}
 use Rattle.bench_calls.proofs.least.Goals as goal
 
 pub returns : goal.returns

@@ -1,9 +1,9 @@
-use Rattle.std.proofs.Common.{◌≡◌, ◌-◌, ◌≤◌, refl, ◌∙◌, ap₂, arith}
+use Rattle.std.proofs.Common.{refl, ◌∙◌, ap₂, arith}
 use Rattle.frames.specs.declared.CanFrame.{CanFrame}
 use Rattle.frames.specs.declared.TxClass.{TxClass}
 use Rattle.bench_calls.specs.Held.{ready}
-use Rattle.bench_calls.specs.Rounds.{turns, first, sum_of, allowed}
-use Rattle.bench_calls.proofs.Laws.{run_of, run_after, turn_more, sum_is}
+use Rattle.bench_calls.specs.Rounds.{turns, sum_of, allowed}
+use Rattle.bench_calls.proofs.Laws.{run_after, turn_more, sum_is}
 use Rattle.bench_calls.proofs.timed_allows.Goals as goal
 
 pub loop-i-init : goal.loop-i-init

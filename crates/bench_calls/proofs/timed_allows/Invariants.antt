@@ -1,9 +1,6 @@
-use Rattle.std.proofs.Common.{◌≡◌, ◌-◌, ◌≤◌, refl, ◌∙◌, ap₂, arith}
-use Rattle.frames.specs.declared.CanFrame.{CanFrame}
-use Rattle.frames.specs.declared.TxClass.{TxClass}
-use Rattle.bench_calls.specs.Held.{ready}
-use Rattle.bench_calls.specs.Rounds.{turns, first, sum_of, allowed}
-use Rattle.bench_calls.proofs.Laws.{run_of, run_after, turn_more, sum_is}
+use Rattle.std.proofs.Common.{◌≡◌, ◌-◌, ◌≤◌}
+use Rattle.bench_calls.specs.Rounds.{turns, first, allowed}
+use Rattle.bench_calls.proofs.Laws.{run_of}
 use Rattle.bench_calls.proofs.timed_allows.Given as goal
 
 abbrev pub invariant-loop-i : goal.invariant-loop-i

@@ -1,4 +1,4 @@
-use Rattle.std.proofs.Common.{◌≡◌, ap}
+use Rattle.std.proofs.Common.{ap}
 use Rattle.car_digest.specs.declared.Digested.{Digested}
 use Rattle.bench_calls.proofs.timed_digest.Goals as goal
 

@@ -1,5 +1,5 @@
-use Rattle.std.proofs.Common.{◌≡◌, ◌-◌, ◌≤◌, refl, ap, ◌∙◌, arith}
-use Rattle.bench_calls.specs.Rounds.{turns, encoded}
+use Rattle.std.proofs.Common.{refl, arith}
+use Rattle.bench_calls.specs.Rounds.{turns}
 use Rattle.bench_calls.proofs.Laws.{turn_more, sum_is}
 use Rattle.bench_calls.proofs.timed_encodes.Goals as goal
 

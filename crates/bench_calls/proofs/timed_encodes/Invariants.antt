@@ -1,6 +1,5 @@
-use Rattle.std.proofs.Common.{◌≡◌, ◌-◌, ◌≤◌, refl, ap, ◌∙◌, arith}
+use Rattle.std.proofs.Common.{◌≡◌, ◌-◌, ◌≤◌}
 use Rattle.bench_calls.specs.Rounds.{turns, encoded}
-use Rattle.bench_calls.proofs.Laws.{turn_more, sum_is}
 use Rattle.bench_calls.proofs.timed_encodes.Given as goal
 
 abbrev pub invariant-loop-i : goal.invariant-loop-i

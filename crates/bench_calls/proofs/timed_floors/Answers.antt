@@ -1,7 +1,7 @@
-use Rattle.std.proofs.Common.{◌≡◌, ◌-◌, ◌≤◌, refl, ap, arith}
+use Rattle.std.proofs.Common.{refl, ap, arith}
 use Rattle.definition.specs.Gate.{given}
-use Rattle.bench_calls.specs.Rounds.{turns, first, floored}
-use Rattle.bench_calls.proofs.Laws.{run_of, run_after, turn_more, sum_is}
+use Rattle.bench_calls.specs.Rounds.{turns}
+use Rattle.bench_calls.proofs.Laws.{run_after, turn_more, sum_is}
 use Rattle.bench_calls.proofs.timed_floors.Goals as goal
 
 pub loop-i-init : goal.loop-i-init

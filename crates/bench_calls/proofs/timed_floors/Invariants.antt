@@ -1,7 +1,6 @@
-use Rattle.std.proofs.Common.{◌≡◌, ◌-◌, ◌≤◌, refl, ap, arith}
-use Rattle.definition.specs.Gate.{given}
+use Rattle.std.proofs.Common.{◌≡◌, ◌-◌, ◌≤◌}
 use Rattle.bench_calls.specs.Rounds.{turns, first, floored}
-use Rattle.bench_calls.proofs.Laws.{run_of, run_after, turn_more, sum_is}
+use Rattle.bench_calls.proofs.Laws.{run_of}
 use Rattle.bench_calls.proofs.timed_floors.Given as goal
 
 abbrev pub invariant-loop-i : goal.invariant-loop-i

@@ -1,6 +1,6 @@
-use Rattle.std.proofs.Common.{◌≡◌, ◌-◌, ◌≤◌, refl, arith}
+use Rattle.std.proofs.Common.{◌≡◌, ◌-◌, ◌≤◌}
 use Rattle.bench_calls.specs.Rounds.{turns, first, restored}
-use Rattle.bench_calls.proofs.Laws.{run_of, run_after, turn_more, sum_is}
+use Rattle.bench_calls.proofs.Laws.{run_of}
 use Rattle.bench_calls.proofs.timed_restores.Given as goal
 
 abbrev pub invariant-loop-i : goal.invariant-loop-i

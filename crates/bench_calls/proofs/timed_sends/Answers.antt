@@ -1,4 +1,4 @@
-use Rattle.std.proofs.Common.{◌≡◌, ◌-◌, ◌≤◌, refl, ap, ◌∙◌, ap₂, arith}
+use Rattle.std.proofs.Common.{refl, ap, ◌∙◌, ap₂, arith}
 use Rattle.frames.specs.declared.CanFrame.{CanFrame}
 use Rattle.frames.specs.declared.TxClass.{TxClass}
 use Rattle.state.specs.declared.Gate.{Gate}

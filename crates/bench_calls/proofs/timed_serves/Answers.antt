@@ -1,9 +1,9 @@
-use Rattle.std.proofs.Common.{◌≡◌, ◌-◌, ◌≤◌, refl, ap, ◌∙◌, ap₂, arith}
+use Rattle.std.proofs.Common.{refl, ap, ◌∙◌, ap₂, arith}
 use Rattle.frames.specs.declared.CanFrame.{CanFrame}
 use Rattle.frames.specs.declared.TxClass.{TxClass}
 use Rattle.bench_calls.specs.Held.{ready}
 use Rattle.bench_calls.specs.Rounds.{Lending, served, passed, turns, sum_lent}
-use Rattle.bench_calls.proofs.Laws.{lending_of, sent_after, ran_after, turn_more, sum_lent_is}
+use Rattle.bench_calls.proofs.Laws.{sent_after, ran_after, turn_more, sum_lent_is}
 use Rattle.bench_calls.proofs.timed_serves.Goals as goal
 
 pub loop-i-init : goal.loop-i-init

@@ -1,6 +1,6 @@
-use Rattle.std.proofs.Common.{◌≡◌, ◌-◌, ◌≤◌, refl, arith}
-use Rattle.bench_calls.specs.Rounds.{turns, first, started}
-use Rattle.bench_calls.proofs.Laws.{run_of, run_after, turn_more, sum_is}
+use Rattle.std.proofs.Common.{refl, arith}
+use Rattle.bench_calls.specs.Rounds.{turns}
+use Rattle.bench_calls.proofs.Laws.{run_after, turn_more, sum_is}
 use Rattle.bench_calls.proofs.timed_starts.Goals as goal
 
 pub loop-i-init : goal.loop-i-init

@@ -1,7 +1,6 @@
-use Rattle.std.proofs.Common.{◌≡◌, ◌-◌, ◌≤◌, refl, ap, ◌∙◌, arith}
-use Rattle.bench_calls.specs.declared.held.Run.{Run}
-use Rattle.bench_calls.specs.Rounds.{turns, first, submitted, tried}
-use Rattle.bench_calls.proofs.Laws.{run_of, run_after, turn_more, sum_is}
+use Rattle.std.proofs.Common.{◌≡◌, ◌-◌, ◌≤◌}
+use Rattle.bench_calls.specs.Rounds.{turns, first, tried}
+use Rattle.bench_calls.proofs.Laws.{run_of}
 use Rattle.bench_calls.proofs.timed_submits.Given as goal
 
 abbrev pub invariant-loop-i : goal.invariant-loop-i

@@ -1,4 +1,4 @@
-use Rattle.std.proofs.Common.{◌≡◌, replicate, ap, ◌∙◌}
+use Rattle.std.proofs.Common.{replicate, ap, ◌∙◌}
 use Rattle.phones.specs.declared.MadeId.{MadeId}
 use Rattle.state.specs.declared.Gate.{Gate}
 use Rattle.new_gate.specs.New.{new_gate}

@@ -1,4 +1,3 @@
-use Rattle.std.proofs.Common.{rules}
 use Rattle.bench_calls.proofs.seen.report_seen.Goals as goal
 
 pub returns : goal.returns
