@@ -20,7 +20,7 @@ use Rattle.bench_calls.specs.Held.{list}
 -- the gate of a new gate, whatever gate was before it
 pub new_gate_is : (g : Gate) (settings : Settings) (list : List Method) (count : ℕ) → (step g (new_gate_call settings list count)).gate ≡ (new_gate settings list count).gate
 unfolding step gives says left new_gate
-new_gate_is g settings list count = refl
+new_gate_is g settings ms count = refl
 
 -- the gate and the sum that a loop holds
 abbrev pub run_of : Gate → ℕ → Run
