@@ -1,5 +1,4 @@
 use Rattle.replay_played.proofs.Laws.{over_empty, over_first}
-use borrow.Author.Rules.{rules}
 use Rattle.replay_played.proofs.is_passed_over.Goals as goal
 
 pub returns-then-line-eq0 : goal.returns-then-line-eq0

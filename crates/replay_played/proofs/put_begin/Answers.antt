@@ -1,5 +1,4 @@
 use Rattle.replay_played.specs.Played.{begun}
-use borrow.Author.Rules.{rules}
 use Rattle.replay_played.proofs.put_begin.Goals as goal
 
 pub returns : goal.returns

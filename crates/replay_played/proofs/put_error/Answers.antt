@@ -1,6 +1,5 @@
 use Rattle.replay_page.specs.Page.{text}
 use Rattle.replay_played.specs.Played.{error_of}
-use borrow.Author.Rules.{rules}
 use Rattle.replay_played.proofs.put_error.Goals as goal
 
 pub returns-then-is_name : goal.returns-then-is_name

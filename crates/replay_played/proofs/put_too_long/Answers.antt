@@ -1,5 +1,4 @@
 use Rattle.replay_played.specs.Played.{too_long}
-use borrow.Author.Rules.{rules}
 use Rattle.replay_played.proofs.put_too_long.Goals as goal
 
 pub returns : goal.returns
