@@ -1,5 +1,4 @@
 -- By the kind of line that the number is of, and what is made of it.
-use borrow.Author.Rules.{rules}
 use Rattle.replay_calls.proofs.Laws.{line_phone, line_can, line_asking}
 use Rattle.replay_items.specs.Bytes.{lent_bytes}
 use Rattle.replay_given.specs.Turns.{ran}

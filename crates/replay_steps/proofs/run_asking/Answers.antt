@@ -1,5 +1,4 @@
 -- By the kind of line that the number is of, and what is made of it.
-use borrow.Author.Rules.{rules}
 use Prim.Native.Nat.{◌-◌}
 use Rattle.replay_calls.specs.Calls.{plain_query, long_query}
 use Rattle.replay_calls.proofs.Laws.{asking_plain, asking_long, asking_rest}

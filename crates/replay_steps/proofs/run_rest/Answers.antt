@@ -1,9 +1,7 @@
 -- Each arm: its number, the bytes that it takes, and what is made of it.
-use borrow.Author.Rules.{rules}
 use Prim.Native.Nat.{◌≤◌}
 use native.Mathlib.Omega.{arith}
 use lib.Dec.{lit≤}
-use Rattle.definition.specs.Gate.{given}
 use Rattle.replay_calls.specs.Calls.{other_lines, rest_lines, rest_line}
 use Rattle.replay_calls.proofs.Laws.{rest_host}
 use Rattle.replay_items.specs.Bytes.{lent_bytes}
