@@ -2,8 +2,8 @@
 use Rattle.replay_script.proofs.Laws.{never}
 use Rattle.replay.proofs.turn.Goals as goal
 
-pub returns-in_Ok-n : goal.returns-in_Ok-n
-returns-in_Ok-n g c = λ going. record { piece = _; gives = c.read_piece.ensures going }
+pub returns-in-Ok : goal.returns-in-Ok
+returns-in-Ok g c = λ going. record { piece = _; gives = c.read_piece.ensures going }
 
-pub returns : goal.returns
-returns g c = λ going. never going
+pub returns-in-Err : goal.returns-in-Err
+returns-in-Err g c = λ going. never going
