@@ -1,6 +1,7 @@
 use mathlib.Core.Path.{sym, ◌∙◌}
 use Rattle.replay_played.proofs.Laws.{word_length, played_right, played_wrong}
 use Rattle.replay_played.proofs.Room.{lent_most, right_in, wrong_in}
+use borrow.Author.Rules.{rules}
 use Rattle.replay_player.proofs.play_line.Goals as goal
 
 pub slice_bounds-name_of-end : goal.slice_bounds-name_of-end
