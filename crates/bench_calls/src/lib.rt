@@ -1,5 +1,6 @@
 // The calls of the gate as the benchmark runs them (docs/BENCHMARKS.md): many times over, on a gate that is held here, since
-// an enum, and so a gate, does not cross to C or Rust. Each round gives a sum over what was answered and raised.
+// an enum, and so a gate, does not cross to C or Rust. Each round gives a sum over what was answered and raised. The crate
+// bench_calls_c exports them.
 #![tactic(auto)]
 
 pub mod held;
@@ -15,8 +16,7 @@ use held::Run;
 use state::{Answer, Gate, Outcome};
 
 // The digest of a car, written to `out`; zeros and no above 4,096 bytes.
-#[unsafe(no_mangle)]
-pub extern "C" fn timed_digest(platform: u32, fingerprint: &[u8], out: &mut [u8; 32]) -> bool
+pub fn timed_digest(platform: u32, fingerprint: &[u8], out: &mut [u8; 32]) -> bool
     ensures { (result ≡ (car_digest platform fingerprint.now).ok) × (out.new ≡ (car_digest platform fingerprint.now).digest) }
 {
     let d = car_digest::car_digest(platform, fingerprint);
@@ -37,8 +37,7 @@ fn encoded(r: Run, i: u64) -> Run
 }
 
 // `n` starts, each in the place of the one before it.
-#[unsafe(no_mangle)]
-pub extern "C" fn timed_starts(
+pub fn timed_starts(
     n: u64,
     car: &[u8; 32],
     bytes: &[u8],
@@ -63,8 +62,7 @@ pub extern "C" fn timed_starts(
 }
 
 // `n` times a start and a typed code.
-#[unsafe(no_mangle)]
-pub extern "C" fn timed_submits(
+pub fn timed_submits(
     n: u64,
     car: &[u8; 32],
     bytes: &[u8],
@@ -93,8 +91,7 @@ pub extern "C" fn timed_submits(
 }
 
 // `n` frames, each of the platform's or each of a command of `owner`.
-#[unsafe(no_mangle)]
-pub extern "C" fn timed_allows(
+pub fn timed_allows(
     n: u64,
     car: &[u8; 32],
     bytes: &[u8],
@@ -121,8 +118,7 @@ pub extern "C" fn timed_allows(
 }
 
 // `n` frames sent, each where none waits.
-#[unsafe(no_mangle)]
-pub extern "C" fn timed_sends(
+pub fn timed_sends(
     n: u64,
     car: &[u8; 32],
     bytes: &[u8],
@@ -153,8 +149,7 @@ pub extern "C" fn timed_sends(
 }
 
 // `n` frames, each sent and then served.
-#[unsafe(no_mangle)]
-pub extern "C" fn timed_serves(
+pub fn timed_serves(
     n: u64,
     car: &[u8; 32],
     bytes: &[u8],
@@ -190,8 +185,7 @@ pub extern "C" fn timed_serves(
 }
 
 // `n` times the record restored.
-#[unsafe(no_mangle)]
-pub extern "C" fn timed_restores(n: u64, car: &[u8; 32], bytes: &[u8], method: &[u8]) -> u32
+pub fn timed_restores(n: u64, car: &[u8; 32], bytes: &[u8], method: &[u8]) -> u32
     ensures { result ≡ sum_of (Rounds.restored bytes.now) (ready car.now bytes.now method.now) n }
 {
     let digest = *car;
@@ -225,8 +219,7 @@ fn least(g: Gate, i: u64) -> Outcome
 }
 
 // `n` times the least that a call does: the floor of the rows above.
-#[unsafe(no_mangle)]
-pub extern "C" fn timed_floors(n: u64, car: &[u8; 32], bytes: &[u8], method: &[u8]) -> u32
+pub fn timed_floors(n: u64, car: &[u8; 32], bytes: &[u8], method: &[u8]) -> u32
     ensures { result ≡ sum_of Rounds.floored (ready car.now bytes.now method.now) n }
 {
     let digest = *car;
@@ -244,8 +237,7 @@ pub extern "C" fn timed_floors(n: u64, car: &[u8; 32], bytes: &[u8], method: &[u
 }
 
 // `n` times the record written.
-#[unsafe(no_mangle)]
-pub extern "C" fn timed_encodes(n: u64, car: &[u8; 32], bytes: &[u8], method: &[u8]) -> u32
+pub fn timed_encodes(n: u64, car: &[u8; 32], bytes: &[u8], method: &[u8]) -> u32
     ensures { result ≡ sum_of Rounds.encoded (ready car.now bytes.now method.now) n }
 {
     let digest = *car;

@@ -49,6 +49,7 @@ fn looking(passes: bool, answer: Answer, made: MadeId) -> Look
 }
 
 // 24, then 18, then 26.
+#[tactic(auto, using(phones::proofs::Made::made_fits, phones::proofs::Made::made_long), unfolding(crate::specs::Steps::looked, state::specs::Checks::checked))]
 fn look_at(frame: CanFrame, class: TxClass, owner: &[u8]) -> Look
     ensures { result ≡ looked frame class owner.now }
 {

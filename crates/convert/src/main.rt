@@ -63,7 +63,7 @@ fn print_converted(rt: &(impl Print + Eprint), saved: &[u8], two: bool) {
     }
 }
 
-// So many bytes of an input decide, whatever its length (first-bytes-decide in converter/proofs/Long.antt).
+// So many bytes of an input decide, whatever its length (first_bytes_decide in converter/proofs/Long.antt).
 fn convert(rt: &(impl Print + Eprint), saved: &mut impl Read, two: bool) {
     let mut buf = [0u8; 261255];
     match input::read_input(saved, &mut buf) {
