@@ -4,8 +4,8 @@
 usage: tools/same_definitions.py OLD [NEW]     OLD is a folder with the tree before the port; NEW is the tree after it, this one if left out
 
 Each file of OLD's specs/ is set beside that of NEW without its imports and comments. Names are compared in snake case; parentheses, guillemets
-and the place of a dash or a `_lem` in a name are left out, and so is the way in which operators and the reading of a list by a place are
-written. What still differs is printed, with the three words before and behind it. Files of crate slices are left out: docs/PORT.md has them.
+and the place of a dash or a `_lem` in a name are left out. What still differs is printed, with the three words before and behind it, the
+spelling of some operators too. Not seen: parentheses, imports, clauses and proofs. Files of crate slices are left out: docs/PORT.md has them.
 """
 
 import difflib
