@@ -78,7 +78,7 @@ fn code_of(v: u32, n: usize) -> [u8; 9]
     let mut code = [0u8; 9];
     let mut rest = v;
     let mut k = n;
-    while 0 < k {
+    'last_first: while 0 < k {
         k -= 1;
         code[k] = (48 + rest % 10) as u8;
         rest /= 10;

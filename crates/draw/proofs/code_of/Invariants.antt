@@ -7,8 +7,8 @@ use Rattle.arrays.specs.Arrays.{padded}
 use Rattle.draw.specs.Draw.{digits}
 use Rattle.draw.proofs.code_of.Given as goal
 
-abbrev pub invariant-loop-k : goal.invariant-loop-k
-invariant-loop-k l = (l.k ≤ l.n) × (l.n ≤ 9) × (length l.code ≡ 9) × (padded 9 0 (digits l.v l.n) ≡ digits l.rest l.k ++ drop l.k l.code)
+abbrev pub invariant-last_first : goal.invariant-last_first
+invariant-last_first l = (l.k ≤ l.n) × (l.n ≤ 9) × (length l.code ≡ 9) × (padded 9 0 (digits l.v l.n) ≡ digits l.rest l.k ++ drop l.k l.code)
 
-abbrev pub decreases-loop-k : goal.decreases-loop-k
-decreases-loop-k l = l.k
+abbrev pub decreases-last_first : goal.decreases-last_first
+decreases-last_first l = l.k
