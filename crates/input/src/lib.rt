@@ -29,7 +29,7 @@ pub fn read_input<R: Read>(reader: &mut R, buf: &mut [u8]) -> Input
     Input::Bytes(n)
 }
 
-// With how many arguments a program was started, its own name among them.
+// With how many arguments a program was started, its own name among them. How many there are is open.
 pub fn arg_count(rt: &impl Env) -> usize {
     for i in 0..usize::MAX {
         if let Err(FillError::NotPresent) = rt.arg(i, &mut []) {
@@ -39,7 +39,8 @@ pub fn arg_count(rt: &impl Env) -> usize {
     usize::MAX
 }
 
-// Puts an argument at the front of `buf`, and answers its length; 0 where there is none or it is longer than `buf`.
+// Puts an argument at the front of `buf`, and answers its length; 0 where there is none or it is longer than `buf`. Which bytes it has
+// and how many is open; they are no more than `buf` holds.
 pub fn arg(rt: &impl Env, place: usize, buf: &mut [u8]) -> usize
     ensures { result ≤ length buf.new }
 {
