@@ -5,28 +5,21 @@ ghost use Rattle.std.specs.Prelude.{◌≤◌, length};
 ghost use Rattle.input.specs.Input.{Within};
 
 use std::env::{Env, FillError};
-use std::io::{Error, Read};
+use std::io::{self, Read};
 
-// The first bytes of a buffer, as many as the number says, or a read that failed, and why.
-#[derive(Clone, Copy)]
-pub enum Input {
-    Bytes(usize),
-    Failed(Error),
-}
-
-// Reads to the end of a file, or until `buf` is full. What it reads and how much is open; it is no more than `buf` holds.
-pub fn read_input<R: Read>(reader: &mut R, buf: &mut [u8]) -> Input
+// Reads to the end of a file, or until `buf` is full, and answers how many bytes of `buf` were read, or why a read failed.
+// What it reads and how much is open; it is no more than `buf` holds.
+pub fn read_input<R: Read>(reader: &mut R, buf: &mut [u8]) -> io::Result<usize>
     ensures { Within (length buf.new) result }
 {
     let mut n = 0;
     while n < buf.len() {
-        match reader.read(&mut buf[n..]) {
-            Ok(0) => return Input::Bytes(n),
-            Ok(more) => n += more,
-            Err(e) => return Input::Failed(e),
+        match reader.read(&mut buf[n..])? {
+            0 => break,
+            more => n += more,
         }
     }
-    Input::Bytes(n)
+    Ok(n)
 }
 
 // With how many arguments a program was started, its own name among them. How many there are is open.
@@ -44,8 +37,5 @@ pub fn arg_count(rt: &impl Env) -> usize {
 pub fn arg(rt: &impl Env, place: usize, buf: &mut [u8]) -> usize
     ensures { result ≤ length buf.new }
 {
-    match rt.arg(place, buf) {
-        Ok(n) => n,
-        Err(_) => 0,
-    }
+    rt.arg(place, buf).unwrap_or(0)
 }
