@@ -1,9 +1,9 @@
 // Laying down text in lent memory. Each `put_` function writes over `out` from `at` on and answers the place
 // after what it wrote; where something does not fit, a place past the end.
-#![tactic(auto)]
+#![tactic(auto, unfolding(crate::specs::Page::text, crate::specs::Page::comma, crate::specs::Page::yes_no, crate::specs::Page::item, crate::specs::Page::flag, crate::specs::Page::known, crate::specs::Page::digits, crate::specs::Page::digit_from))]
 
 ghost use Rattle.std.specs.Prelude.{◌≡◌, ◌-◌, ◌≤◌, ◌<◌, length, take, drop};
-ghost use Rattle.replay_page.specs.Page.{page, text, number, bytes, yes_no, comma, item, flag, known, digits, digit_from, high_digits, hexadecimal};
+ghost use Rattle.replay_page.specs.Page.{page, text, number, bytes, yes_no, comma, item, flag, known, digits, digit_from, hexadecimal};
 
 pub fn put_text(out: &mut [u8], at: usize, src: &[u8]) -> usize
     ensures { page out.new result ≡ text src.now (page out.old at) }
@@ -53,10 +53,7 @@ pub fn put_bytes(out: &mut [u8], at: usize, src: &[u8]) -> usize
 pub fn put_first(out: &mut [u8], at: usize, src: &[u8], n: usize) -> usize
     ensures { page out.new result ≡ bytes (take n src.now) (page out.old at) }
 {
-    if src.len() < n {
-        return put_bytes(out, at, src);
-    }
-    put_bytes(out, at, &src[..n])
+    put_bytes(out, at, &src[..n.min(src.len())])
 }
 
 // The first n digits.
@@ -64,27 +61,30 @@ pub fn put_digits(out: &mut [u8], at: usize, code: &[u8], n: usize) -> usize
     ensures { page out.new result ≡ digits code.now n (page out.old at) }
 {
     if n == 0 {
-        return put_text(out, at, b"-");
+        put_text(out, at, b"-")
+    } else {
+        put_first(out, at, code, n)
     }
-    put_first(out, at, code, n)
 }
 
 pub fn put_known(out: &mut [u8], at: usize, src: &[u8], yes: bool) -> usize
     ensures { page out.new result ≡ known yes src.now (page out.old at) }
 {
     if yes {
-        return put_bytes(out, at, src);
+        put_bytes(out, at, src)
+    } else {
+        put_text(out, at, b"none")
     }
-    put_text(out, at, b"none")
 }
 
 pub fn put_yes_no(out: &mut [u8], at: usize, b: bool) -> usize
     ensures { page out.new result ≡ yes_no b (page out.old at) }
 {
     if b {
-        return put_text(out, at, b"yes");
+        put_text(out, at, b"yes")
+    } else {
+        put_text(out, at, b"no")
     }
-    put_text(out, at, b"no")
 }
 
 // A comma before every place of a list but the first.
@@ -92,9 +92,10 @@ pub fn put_comma(out: &mut [u8], at: usize, place: usize) -> usize
     ensures { page out.new result ≡ comma place (page out.old at) }
 {
     if place == 0 {
-        return at;
+        at
+    } else {
+        put_text(out, at, b",")
     }
-    put_text(out, at, b",")
 }
 
 pub fn put_item(out: &mut [u8], at: usize, key: &[u8], n: u64) -> usize
@@ -117,30 +118,21 @@ fn put_digit(out: &mut [u8], at: usize, n: u32, unit: u32) -> usize
     ensures { page out.new result ≡ digit_from n unit (page out.old at) }
 {
     if n < unit {
-        return at;
+        at
+    } else {
+        let d = hexadecimal::hex_digit((n / unit % 16) as u8);
+        put_text(out, at, &[d])
     }
-    let d = hexadecimal::hex_digit((n / unit % 16) as u8);
-    put_text(out, at, &[d])
-}
-
-// The upper four digits of a number in hexadecimal, those that it has.
-fn put_high(out: &mut [u8], at: usize, n: u32) -> usize
-    ensures { page out.new result ≡ high_digits n (page out.old at) }
-{
-    let k = put_digit(out, at, n, 0x1000_0000);
-    let k = put_digit(out, k, n, 0x100_0000);
-    let k = put_digit(out, k, n, 0x10_0000);
-    put_digit(out, k, n, 0x1_0000)
 }
 
 // A number in hexadecimal, without leading zeros.
 pub fn put_hexadecimal(out: &mut [u8], at: usize, n: u32) -> usize
     ensures { page out.new result ≡ hexadecimal n (page out.old at) }
 {
-    let k = put_high(out, at, n);
-    let k = put_digit(out, k, n, 0x1000);
-    let k = put_digit(out, k, n, 0x100);
-    let k = put_digit(out, k, n, 0x10);
+    let mut k = at;
+    for i in (1..8).rev() {
+        k = put_digit(out, k, n, 16u32.pow(i));
+    }
     let d = hexadecimal::hex_digit((n % 16) as u8);
     put_text(out, k, &[d])
 }
