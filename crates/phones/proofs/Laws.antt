@@ -6,8 +6,9 @@ use native.Mathlib.Nat.{zero-min, min-zero, suc-min-suc}
 use borrow.Author.Tests.{lt-ltb, le-ltb}
 use lib.ListN.{length, take, drop, replicate, length-map, length-take}
 use lib.Seq.{take_at, drop_at}
-use Rattle.arrays.specs.Arrays.{padded, put}
-use Rattle.arrays.proofs.Laws.{padded_take, put_padded}
+use Rattle.std.proofs.lemmas.List.{drop-replicate}
+use Rattle.arrays.specs.Arrays.{padded}
+use Rattle.arrays.proofs.Laws.{padded_take}
 use Rattle.phones.specs.declared.ShortId.{ShortId}
 use Rattle.phones.specs.declared.PhoneList.{PhoneList}
 use Rattle.phones.specs.Ids.{joined, room_for, pushed}
@@ -47,10 +48,14 @@ pub used_length : (p : ShortId) → length p.bytes ≡ 32 → length (id_bytes p
 unfolding id_bytes
 used_length p h = rw (length-take, h)
 
--- zeros with a string written in front
-pub id_made : (b : List ℕ) (n : ℕ) (s : List ℕ) → b ≡ put (replicate 32 0) 0 s → n ≡ length s → ◌≡◌ {A = ShortId} (record { bytes = b; len = n }) (id_of s)
-unfolding id_of padded
-id_made b n s e f = rw (e, f, put_padded 32 0 [] s)
+-- a string copied over zeros
+pub over_zeros : (n : ℕ) (s : List ℕ) → s ++ drop (length s) (replicate n 0) ≡ padded n 0 s
+unfolding padded
+over_zeros n s = ap (λ (z : List ℕ). s ++ z) (drop-replicate (length s) n 0)
+
+pub id_made : (s : List ℕ) → ◌≡◌ {A = ShortId} (record { bytes = s ++ drop (length s) (replicate 32 0); len = length s }) (id_of s)
+unfolding id_of
+id_made s = rw (over_zeros 32 s)
 
 -- ---- how many, and how long together
 

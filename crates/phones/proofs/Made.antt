@@ -1,38 +1,28 @@
--- What an id that was made says of its bytes.
-use mathlib.Core.Path.{◌≡◌, refl, sym, ap, ◌∙◌}
-use mathlib.Core.Bool.{Bool, true, false, cond, true≢false, false≢true}
-use mathlib.Core.List.{List, []}
-use Prim.Native.Nat.{ℕ}
-use lib.Dec.{ltb}
-use lib.ListN.{length}
+-- What an id that was made says of its bytes, and none of them.
+use Rattle.std.proofs.Common.{◌≡◌, refl, ap, ◌∙◌, Bool, true, false, cond, ltb, List, ℕ, length, Option, Some, None}
 use Rattle.phones.specs.declared.ShortId.{ShortId}
-use Rattle.phones.specs.declared.MadeId.{MadeId}
 use Rattle.phones.specs.Phones.{id_bytes, id_of, made_id}
 use Rattle.phones.proofs.Laws.{bytes_of_id}
 
-ok_tells : (t : Bool) (m : MadeId) (a b : ShortId) → m ≡ cond t (record { ok = false; id = a }) (record { ok = true; id = b }) → m.ok ≡ true → t ≡ false
-ok_tells true m a b e ok = absurd (false≢true (sym (ap (λ (x : MadeId). x.ok) e) ∙ ok))
-ok_tells false m a b e ok = refl
+some_tells : (t : Bool) (p q : ShortId) → Some p ≡ cond t None (Some q) → (t ≡ false) × (p ≡ q)
+some_tells true p q e = cc
+some_tells false p q e = (refl, cc)
 
-no_tells : (t : Bool) (m : MadeId) (a b : ShortId) → m ≡ cond t (record { ok = false; id = a }) (record { ok = true; id = b }) → m.ok ≡ false → t ≡ true
-no_tells true m a b e f = refl
-no_tells false m a b e f = absurd (true≢false (sym (ap (λ (x : MadeId). x.ok) e) ∙ f))
-
-id_tells : (t : Bool) (m : MadeId) (a b : ShortId) → m ≡ cond t (record { ok = false; id = a }) (record { ok = true; id = b }) → m.ok ≡ true → m.id ≡ b
-id_tells true m a b e ok = absurd (false≢true (sym (ap (λ (x : MadeId). x.ok) e) ∙ ok))
-id_tells false m a b e ok = ap (λ (x : MadeId). x.id) e
-
-pub made_fits : (m : MadeId) (s : List ℕ) → m ≡ made_id s → m.ok ≡ true → ltb 32 (length s) ≡ false
+pub made_fits : (p : ShortId) (s : List ℕ) → Some p ≡ made_id s → ltb 32 (length s) ≡ false
 unfolding made_id
-made_fits m s e ok = ok_tells (ltb 32 (length s)) m (id_of []) (id_of s) e ok
+made_fits p s e = (some_tells (ltb 32 (length s)) p (id_of s) e).0
 
-pub made_long : (m : MadeId) (s : List ℕ) → m ≡ made_id s → m.ok ≡ false → ltb 32 (length s) ≡ true
+pub made_id_lem : (p : ShortId) (s : List ℕ) → Some p ≡ made_id s → p ≡ id_of s
 unfolding made_id
-made_long m s e f = no_tells (ltb 32 (length s)) m (id_of []) (id_of s) e f
+made_id_lem p s e = (some_tells (ltb 32 (length s)) p (id_of s) e).1
 
-pub made_id_lem : (m : MadeId) (s : List ℕ) → m ≡ made_id s → m.ok ≡ true → m.id ≡ id_of s
+pub made_bytes : (p : ShortId) (s : List ℕ) → Some p ≡ made_id s → id_bytes p ≡ s
+made_bytes p s e = ap id_bytes (made_id_lem p s e) ∙ bytes_of_id s
+
+pub made_long : (s : List ℕ) → ◌≡◌ {A = Option ShortId} None (made_id s) → ltb 32 (length s) ≡ true
 unfolding made_id
-made_id_lem m s e ok = id_tells (ltb 32 (length s)) m (id_of []) (id_of s) e ok
-
-pub made_bytes : (m : MadeId) (s : List ℕ) → m ≡ made_id s → m.ok ≡ true → id_bytes m.id ≡ s
-made_bytes m s e ok = ap id_bytes (made_id_lem m s e ok) ∙ bytes_of_id s
+made_long s e = go (ltb 32 (length s)) e
+  where
+    go : (t : Bool) → ◌≡◌ {A = Option ShortId} None (cond t None (Some (id_of s))) → t ≡ true
+    go true e = refl
+    go false e = cc

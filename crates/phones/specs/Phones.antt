@@ -1,11 +1,10 @@
 -- How ids lie in memory, and nothing else knows it: `phones_of` reads a list, `list_of` is the canonical list of some ids, `laid`
 -- leaves a list as it lies or lays it anew. What stands past a count or a length is not looked at, and reading ends with the
 -- array.
-use Rattle.std.specs.Prelude.{Bool, true, false, cond, not, List, [], ◌∷◌, map, ℕ, ltb, length, take, drop}
+use Rattle.std.specs.Prelude.{Bool, false, cond, not, Option, None, Some, List, [], ◌∷◌, map, ℕ, ltb, length, take, drop}
 use Rattle.arrays.specs.Arrays.{padded}
 use Rattle.phones.specs.declared.ShortId.{ShortId}
 use Rattle.phones.specs.declared.PhoneList.{PhoneList}
-use Rattle.phones.specs.declared.MadeId.{MadeId}
 use Rattle.phones.specs.Ids.{some_of, joined, Left, stays, becomes}
 
 -- ---- an id by itself
@@ -19,8 +18,8 @@ unfoldable pub id_of : List ℕ → ShortId
 id_of s = record { bytes = padded 32 0 s; len = length s }
 
 -- a byte string above 32 bytes is no id (01: 18 IdTooLong)
-unfoldable pub made_id : List ℕ → MadeId
-made_id s = cond (ltb 32 (length s)) (record { ok = false; id = id_of [] }) (record { ok = true; id = id_of s })
+unfoldable pub made_id : List ℕ → Option ShortId
+made_id s = cond (ltb 32 (length s)) None (Some (id_of s))
 
 unfoldable pub too_long : ShortId → Bool
 too_long p = ltb 32 p.len

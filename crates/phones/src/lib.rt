@@ -17,18 +17,21 @@ pub struct ShortId {
     pub len: usize,
 }
 
+impl ShortId {
+    // The bytes in use.
+    pub fn used(&self) -> &[u8]
+        ensures value { result.now ≡ id_bytes self.now }
+        ensures short { length result.now < 33 }
+    {
+        &self.bytes[..self.len.min(32)]
+    }
+}
+
 #[derive(Clone, Copy)]
 pub struct PhoneList {
     pub bytes: [u8; 1024],
     pub lens: [u8; 32],
     pub count: usize,
-}
-
-// An id, or none (and the empty id) where the byte string was too long.
-#[derive(Clone, Copy)]
-pub struct MadeId {
-    pub ok: bool,
-    pub id: ShortId,
 }
 
 // The lengths of some ids, and where they end.
@@ -42,67 +45,62 @@ struct Measured {
 pub fn clamp(n: usize) -> usize
     ensures { result ≡ min n 32 }
 {
-    if n < 32 { n } else { 32 }
+    n.min(32)
 }
 
 // Whether an id is the byte string `s`, of any length.
 pub fn id_is(p: ShortId, s: &[u8]) -> bool
     ensures { result ≡ same_bytes (id_bytes p) s.now }
 {
-    let bytes = p.bytes;
-    let used = clamp(p.len);
-    arrays::same_bytes(&bytes[..used], s)
+    arrays::same_bytes(p.used(), s)
 }
 
-// A byte string as an id.
-pub fn make_id(s: &[u8]) -> MadeId
-    ensures { result ≡ made_id s.now }
+fn id_of(s: &[u8]) -> ShortId
+    requires { length s.now < 33 }
+    ensures { result ≡ id_of s.now }
 {
     let mut bytes = [0u8; 32];
-    let n = s.len();
-    if 32 < n {
-        let id = ShortId { bytes, len: 0 };
-        return MadeId { ok: false, id };
+    bytes[..s.len()].copy_from_slice(s);
+    ShortId {
+        bytes,
+        len: s.len(),
     }
-    arrays::put(&mut bytes, 0, s);
-    let id = ShortId { bytes, len: n };
-    MadeId { ok: true, id }
+}
+
+// A byte string as an id; none above 32 bytes.
+pub fn make_id(s: &[u8]) -> Option<ShortId>
+    ensures { result ≡ made_id s.now }
+{
+    if 32 < s.len() { None } else { Some(id_of(s)) }
 }
 
 // The same id with zeros past its length.
 pub fn clean(p: ShortId) -> ShortId
     ensures { result ≡ id_of (id_bytes p) }
 {
-    let old = p.bytes;
-    let n = clamp(p.len);
-    let mut bytes = [0u8; 32];
-    arrays::put(&mut bytes, 0, &old[..n]);
-    ShortId { bytes, len: n }
+    id_of(p.used())
 }
 
 // Whether the length is at most 32.
 pub fn id_in_range(p: ShortId) -> bool
     ensures { result ≡ id_in_range p }
 {
-    if 32 < p.len { false } else { true }
+    p.len <= 32
 }
 
 // How long the next id of a list is: its length `n`, cut where only `rest` bytes are left. It still fits a byte.
 pub fn part(n: u8, rest: usize) -> usize
     ensures { (result ≡ min n rest) × (result < 256) }
 {
-    let len = n as usize;
-    if len < rest { len } else { rest }
+    usize::from(n).min(rest)
 }
 
 pub fn empty_list() -> PhoneList
     ensures { result ≡ list_of [] }
 {
-    let bytes = [0u8; 1024];
-    let lens = [0u8; 32];
     PhoneList {
-        bytes,
-        lens,
+        bytes: [0; 1024],
+        lens: [0; 32],
         count: 0,
     }
 }
@@ -150,10 +148,7 @@ pub fn contains(l: PhoneList, s: &[u8]) -> bool
 pub fn contains_id(l: PhoneList, p: ShortId) -> bool
     ensures { result ≡ Ids.contains (id_bytes p) (phones_of l) }
 {
-    let lens = l.lens;
-    let bytes = p.bytes;
-    let n = clamp(p.len);
-    found(&l.bytes, lens, l.count, &bytes[..n])
+    contains(l, p.used())
 }
 
 // Whether some id of the list is in the other one.
