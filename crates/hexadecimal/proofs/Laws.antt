@@ -9,7 +9,7 @@ use borrow.Author.Tests.{lt-ltb, le-ltb, ltb-true, ltb-false}
 use lib.Dec.{ltb}
 use lib.ListN.{length, get_or, set}
 use lib.Seq.{paste, paste-suc}
-use Rattle.hexadecimal.specs.declared.HexValue.TheVariants.{Digit}
+use Rattle.std.specs.Prelude.{Some}
 use Rattle.hexadecimal.specs.Hex.{digit, hex_of, value_of}
 
 pub hex_length : (s : List ℕ) → length (hex_of s) ≡ 2 * length s
@@ -45,7 +45,7 @@ hex_turn d at s i fits h byte =
     let two = paste-suc d at (hex_of s) (suc (2 * i)) 0 (omega arith) (omega arith) in
     rw (m, e, f, ← hex_high s i h, ← hex_low s i h, one, two)
 
-value_by : (n : ℕ) (t : Bool) → ltb n 10 ≡ t → n < 16 → value_of (cond t (48 + n) (87 + n)) ≡ Digit n
+value_by : (n : ℕ) (t : Bool) → ltb n 10 ≡ t → n < 16 → value_of (cond t (48 + n) (87 + n)) ≡ Some n
 unfolding value_of
 value_by n true l h =
     let k = ltb-true n 10 l in
@@ -57,6 +57,6 @@ value_by n false l h =
     rw (le-ltb (87 + n) 48 (omega arith), le-ltb (87 + n) 58 (omega arith), le-ltb (87 + n) 65 (omega arith), le-ltb (87 + n) 71 (omega arith), le-ltb (87 + n) 97 (omega arith), lt-ltb (87 + n) 103 (omega arith), e)
 
 -- a digit that was written is read back
-pub value_digit : (n : ℕ) → n < 16 → value_of (digit n) ≡ Digit n
+pub value_digit : (n : ℕ) → n < 16 → value_of (digit n) ≡ Some n
 unfolding digit
 value_digit n h = value_by n (ltb n 10) refl h

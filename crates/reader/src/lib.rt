@@ -1,19 +1,21 @@
-// A reader over a lent record and a position. The work is done by `field_at`, on a plain slice and a number; the
-// functions over the struct take it apart and put it together. `read_field` is for callers that hold no reader.
+// A reader over a lent record and a position.
 #![tactic(auto)]
 
 ghost use Rattle.std.specs.Prelude.{◌≡◌};
 ghost use Rattle.reader.specs.Reader.{field_at};
 
-// A field is a length byte and as many bytes after it.
-#[derive(Clone, Copy)]
-pub enum Field {
-    // The bytes of the field stand from `start` on and are `len` many; `next` is the place after them.
-    Whole {
-        start: usize,
-        len: usize,
-        next: usize,
-    },
+// A field is a length byte and as many bytes after it: these stand from `start` on and are `len` many; `next` is the
+// place after them.
+#[derive(Clone, Copy, PartialEq, Eq)]
+pub struct Field {
+    pub start: usize,
+    pub len: usize,
+    pub next: usize,
+}
+
+// Why no field stands at a place.
+#[derive(Clone, Copy, PartialEq, Eq)]
+pub enum FieldError {
     // A length byte with fewer bytes after it.
     Short,
     // Nothing stands there.
@@ -26,50 +28,42 @@ pub struct Reader<'a> {
     pub at: usize,
 }
 
-// The field at a position of a slice.
-#[tactic(auto, unfolding(crate::specs::Reader::field_at))]
-pub fn field_at(s: &[u8], at: usize) -> Field
+impl<'a> Reader<'a> {
+    // A reader at the front.
+    pub fn new(src: &'a [u8]) -> Self
+        ensures { (result.src ≡ src.entry) × (result.at ≡ 0) }
+    {
+        Reader { src, at: 0 }
+    }
+
+    // The same reader at another place.
+    pub fn moved(self, at: usize) -> Self
+        ensures { (result.src ≡ self.entry.src) × (result.at ≡ at) }
+    {
+        Reader { at, ..self }
+    }
+
+    // The field where the reader stands.
+    #[tactic(auto, unfolding(crate::specs::Reader::field_at))]
+    pub fn next(self) -> Result<Field, FieldError>
+        ensures { result ≡ field_at self.entry.src.now self.entry.at }
+    {
+        let len = usize::from(*self.src.get(self.at).ok_or(FieldError::End)?);
+        let start = self.at + 1;
+        if self.src.len() - start < len {
+            return Err(FieldError::Short);
+        }
+        Ok(Field {
+            start,
+            len,
+            next: start + len,
+        })
+    }
+}
+
+// The field at a position of a slice, for callers that hold no reader.
+pub fn field_at(s: &[u8], at: usize) -> Result<Field, FieldError>
     ensures { result ≡ field_at s.now at }
 {
-    if s.len() <= at {
-        return Field::End;
-    }
-    let len = s[at] as usize;
-    let start = at + 1;
-    if s.len() - start < len {
-        return Field::Short;
-    }
-    Field::Whole {
-        start,
-        len,
-        next: start + len,
-    }
-}
-
-// A reader at the front.
-pub fn new<'a>(src: &'a [u8]) -> Reader<'a>
-    ensures { (result.src ≡ src.entry) × (result.at ≡ 0) }
-{
-    Reader { src, at: 0 }
-}
-
-// The same reader at another place.
-pub fn moved<'a>(r: Reader<'a>, at: usize) -> Reader<'a>
-    ensures { (result.src ≡ r.entry.src) × (result.at ≡ at) }
-{
-    Reader { src: r.src, at }
-}
-
-// The field where the reader stands.
-pub fn next<'a>(r: Reader<'a>) -> Field
-    ensures { result ≡ field_at r.entry.src.now r.entry.at }
-{
-    field_at(r.src, r.at)
-}
-
-// The field at a position, read by a reader that is moved there.
-pub fn read_field(s: &[u8], at: usize) -> Field
-    ensures { result ≡ field_at s.now at }
-{
-    next(moved(new(s), at))
+    Reader::new(s).moved(at).next()
 }

@@ -1,4 +1,3 @@
 pub mod Ranges
-pub mod Grammar
 pub mod Octets
 pub mod Utf8

@@ -10,8 +10,7 @@ use borrow.Author.Tests.{le-leb, lt-leb, leb-true, leb-false, eqb-true, eq-eqb, 
 use lib.Dec.{leb, eqb}
 use lib.ListN.{length}
 use Rattle.utf8.specs.Utf8.{within, scalar, encode, utf8_tail, utf8_1, utf8_2, utf8_3, utf8_4, begins3, begins4, point2, point3, point4}
-use Rattle.utf8.specs.First.{first_char, first2, first3, first4}
-use Rattle.utf8.specs.declared.Char.TheVariants.{Point}
+use Rattle.utf8.specs.First.{char_of, first_char, first2, first3, first4}
 use Rattle.utf8.proofs.Ranges.{inside, outside, within_true}
 
 pub and_true : (s t : Bool) → (s && t) ≡ true → (s ≡ true) × (t ≡ true)
@@ -285,7 +284,7 @@ begins4_of c p q = go (leb c 0x3FFFF) (leb c 0xFFFFF) refl refl
 
 -- a string that begins with the encoding of c begins with the character c
 Begins : ℕ → List ℕ → Type 0
-Begins c s = first_char (encode c ++ s) ≡ Point c (length (encode c))
+Begins c s = first_char (encode c ++ s) ≡ char_of c (length (encode c))
 
 begins_2 : (c : ℕ) (s : List ℕ) → 0x7F < c → c ≤ 0x7FF → Begins c s
 unfolding Begins first_char first2
@@ -324,7 +323,7 @@ begins_4 c s p q =
       number_4 c (omega arith),
     )
 
-pub first_of : (c : ℕ) (s : List ℕ) → scalar c ≡ true → first_char (encode c ++ s) ≡ Point c (length (encode c))
+pub first_of : (c : ℕ) (s : List ℕ) → scalar c ≡ true → first_char (encode c ++ s) ≡ char_of c (length (encode c))
 unfolding Scalar Begins first_char
 first_of c s is = go (leb c 0x7F) (leb c 0x7FF) (leb c 0xFFFF) refl refl refl
   where

@@ -1,6 +1,5 @@
 -- RFC 3629, UTF-8: the octets of a character, and the characters of a string of octets.
-use Rattle.std.specs.Prelude.{Bool, true, cond, ◌&&◌, ◌||◌, List, [], ◌∷◌, ◌++◌, ℕ, ◌+◌, ◌*◌, ◌/◌, ◌%◌, leb, eqb}
-use Rattle.std.proofs.Math.Option.{Option, none, some}
+use Rattle.std.specs.Prelude.{Bool, true, cond, ◌&&◌, ◌||◌, List, [], ◌∷◌, ◌++◌, ℕ, ◌+◌, ◌*◌, ◌/◌, ◌%◌, leb, eqb, Option, Some, None}
 
 -- lo to hi, both included
 unfoldable pub within : ℕ → ℕ → ℕ → Bool
@@ -73,24 +72,24 @@ point4 a b c d = a % 8 * 262144 + b % 64 * 4096 + c % 64 * 64 + d % 64
 
 -- a character in front of those that follow
 abbrev pub before : ℕ → Option (List ℕ) → Option (List ℕ)
-before c none = none
-before c (some cs) = some (c ∷ cs)
+before c None = None
+before c (Some cs) = Some (c ∷ cs)
 
 -- UTF8-octets: the characters, one after the other; none if some octets are no character.
 -- decode2, decode3 and decode4 go on after one, two and three octets that are no character by themselves
 unfoldable mutual
   pub decode : List ℕ → Option (List ℕ)
-  decode [] = some []
+  decode [] = Some []
   decode (a ∷ s) = cond (utf8_1 a) (before a (decode s)) (decode2 a s)
 
   pub decode2 : ℕ → List ℕ → Option (List ℕ)
-  decode2 a [] = none
+  decode2 a [] = None
   decode2 a (b ∷ s) = cond (utf8_2 a b) (before (point2 a b) (decode s)) (decode3 a b s)
 
   pub decode3 : ℕ → ℕ → List ℕ → Option (List ℕ)
-  decode3 a b [] = none
+  decode3 a b [] = None
   decode3 a b (c ∷ s) = cond (utf8_3 a b c) (before (point3 a b c) (decode s)) (decode4 a b c s)
 
   pub decode4 : ℕ → ℕ → ℕ → List ℕ → Option (List ℕ)
-  decode4 a b c [] = none
-  decode4 a b c (d ∷ s) = cond (utf8_4 a b c d) (before (point4 a b c d) (decode s)) none
+  decode4 a b c [] = None
+  decode4 a b c (d ∷ s) = cond (utf8_4 a b c d) (before (point4 a b c d) (decode s)) None

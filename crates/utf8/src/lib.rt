@@ -7,133 +7,90 @@ ghost use Rattle.utf8.specs.Utf8.{utf8_tail, utf8_2, utf8_3, utf8_4};
 ghost use Rattle.utf8.specs.First.{first_char};
 
 // The character that a string begins with: its code point and its number of bytes.
-#[derive(Clone, Copy)]
-pub enum Char {
-    Point(u32, usize),
-    Bad,
-}
-
-pub fn wide(x: u8) -> u32
-    ensures { result ≡ x }
-{
-    x as u32
-}
-
-// lo to hi, both included.
-pub fn within(lo: u32, hi: u32, x: u32) -> bool
-    ensures { result ≡ Utf8.within lo hi x }
-{
-    if x < lo {
-        return false;
-    }
-    x <= hi
+#[derive(Clone, Copy, PartialEq, Eq)]
+pub struct Char {
+    pub point: u32,
+    pub size: usize,
 }
 
 // UTF8-tail.
-fn is_tail(a: u32) -> bool
+#[tactic(auto, unfolding(crate::specs::Utf8::within))]
+fn is_tail(a: u8) -> bool
     ensures { result ≡ utf8_tail a }
 {
-    within(0x80, 0xBF, a)
+    matches!(a, 0x80..=0xBF)
 }
 
 // UTF8-2.
-fn is_two(a: u32, b: u32) -> bool
+#[tactic(auto, unfolding(crate::specs::Utf8::within, crate::specs::Utf8::utf8_2))]
+fn is_two(a: u8, b: u8) -> bool
     ensures { result ≡ utf8_2 a b }
 {
-    if within(0xC2, 0xDF, a) {
-        return is_tail(b);
-    }
-    false
+    matches!(a, 0xC2..=0xDF) && is_tail(b)
 }
 
 // The first two octets of UTF8-3.
-fn begins_three(a: u32, b: u32) -> bool
+#[tactic(auto, unfolding(crate::specs::Utf8::within, crate::specs::Utf8::begins3))]
+fn begins_three(a: u8, b: u8) -> bool
     ensures { result ≡ Utf8.begins3 a b }
 {
-    if a == 0xE0 {
-        return within(0xA0, 0xBF, b);
+    match a {
+        0xE0 => matches!(b, 0xA0..=0xBF),
+        0xED => matches!(b, 0x80..=0x9F),
+        0xE1..=0xEF => is_tail(b),
+        _ => false,
     }
-    if within(0xE1, 0xEC, a) {
-        return is_tail(b);
-    }
-    if a == 0xED {
-        return within(0x80, 0x9F, b);
-    }
-    if within(0xEE, 0xEF, a) {
-        return is_tail(b);
-    }
-    false
 }
 
 // UTF8-3.
-fn is_three(a: u32, b: u32, c: u32) -> bool
+#[tactic(auto, unfolding(crate::specs::Utf8::utf8_3))]
+fn is_three(a: u8, b: u8, c: u8) -> bool
     ensures { result ≡ utf8_3 a b c }
 {
-    if begins_three(a, b) {
-        return is_tail(c);
-    }
-    false
+    begins_three(a, b) && is_tail(c)
 }
 
 // The first two octets of UTF8-4.
-fn begins_four(a: u32, b: u32) -> bool
+#[tactic(auto, unfolding(crate::specs::Utf8::within, crate::specs::Utf8::begins4))]
+fn begins_four(a: u8, b: u8) -> bool
     ensures { result ≡ Utf8.begins4 a b }
 {
-    if a == 0xF0 {
-        return within(0x90, 0xBF, b);
+    match a {
+        0xF0 => matches!(b, 0x90..=0xBF),
+        0xF1..=0xF3 => is_tail(b),
+        0xF4 => matches!(b, 0x80..=0x8F),
+        _ => false,
     }
-    if within(0xF1, 0xF3, a) {
-        return is_tail(b);
-    }
-    if a == 0xF4 {
-        return within(0x80, 0x8F, b);
-    }
-    false
 }
 
 // UTF8-4.
-fn is_four(a: u32, b: u32, c: u32, d: u32) -> bool
+#[tactic(auto, unfolding(crate::specs::Utf8::utf8_4))]
+fn is_four(a: u8, b: u8, c: u8, d: u8) -> bool
     ensures { result ≡ utf8_4 a b c d }
 {
-    if begins_four(a, b) {
-        if is_tail(c) {
-            return is_tail(d);
-        }
-    }
-    false
+    begins_four(a, b) && is_tail(c) && is_tail(d)
 }
 
-// The first character, by the four forms of the grammar.
-pub fn first_char(s: &[u8]) -> Char
+// The first character, by the four forms of the grammar; none if what stands in front is no character.
+#[tactic(auto, unfolding(crate::specs::First::first_char, crate::specs::First::first2, crate::specs::First::first3, crate::specs::First::first4))]
+pub fn first_char(s: &[u8]) -> Option<Char>
     ensures { result ≡ first_char s.now }
 {
-    if s.len() < 1 {
-        return Char::Bad;
-    }
-    let a = wide(s[0]);
-    if a <= 0x7F {
-        return Char::Point(a, 1);
-    }
-    if s.len() < 2 {
-        return Char::Bad;
-    }
-    let b = wide(s[1]);
-    if is_two(a, b) {
-        return Char::Point(a % 32 * 64 + b % 64, 2);
-    }
-    if s.len() < 3 {
-        return Char::Bad;
-    }
-    let c = wide(s[2]);
-    if is_three(a, b, c) {
-        return Char::Point(a % 16 * 4096 + b % 64 * 64 + c % 64, 3);
-    }
-    if s.len() < 4 {
-        return Char::Bad;
-    }
-    let d = wide(s[3]);
-    if is_four(a, b, c, d) {
-        return Char::Point(a % 8 * 262144 + b % 64 * 4096 + c % 64 * 64 + d % 64, 4);
-    }
-    Char::Bad
+    let (point, size) = match *s {
+        [a @ 0..=0x7F, ..] => (u32::from(a), 1),
+        [a, b, ..] if is_two(a, b) => (u32::from(a) % 32 * 64 + u32::from(b) % 64, 2),
+        [a, b, c, ..] if is_three(a, b, c) => (
+            u32::from(a) % 16 * 4096 + u32::from(b) % 64 * 64 + u32::from(c) % 64,
+            3,
+        ),
+        [a, b, c, d, ..] if is_four(a, b, c, d) => (
+            u32::from(a) % 8 * 262144
+                + u32::from(b) % 64 * 4096
+                + u32::from(c) % 64 * 64
+                + u32::from(d) % 64,
+            4,
+        ),
+        _ => return None,
+    };
+    Some(Char { point, size })
 }
