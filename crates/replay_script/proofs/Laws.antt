@@ -1,15 +1,10 @@
 -- Laws of the definitions of specs/.
-use mathlib.Core.Path.{◌≡◌, refl, ap, ap₂, sym, ◌∙◌}
-use mathlib.Core.Bool.{Bool, true, false, cond}
-use mathlib.Core.List.{List, [], ◌∷◌}
-use Prim.Native.Nat.{ℕ, zero, suc, ◌+◌, ◌-◌, ◌≤◌, ◌<◌}
+use Rattle.std.proofs.Common.{◌≡◌, refl, ap, ap₂, sym, ◌∙◌, Bool, true, false, cond, List, [], ◌∷◌, ℕ, zero, suc, ◌+◌, ◌-◌, ◌≤◌, ◌<◌, ◌==◌, eqb, ltb, length, take, drop, get_or, count_by, add-one, arith, length-drop, drop-cons}
 use native.Mathlib.Nat.{sub-zero, zero-sub, suc-sub-suc}
-use native.Mathlib.Numerals.{add-one}
-use native.Mathlib.Omega.{arith}
+use Rattle.std.proofs.lemmas.List.Recursion.{is_count_by}
 use borrow.Author.Tests.{eq-eqb, eqb-true, ltb-true}
-use lib.Dec.{eqb, ltb}
-use lib.ListN.{length, take, drop, get_or, drop_of_length-le, length-drop}
-use lib.Seq.{drop-cons, drop-drop, get_or-drop, length-take-le, take-nil}
+use lib.ListN.{drop_of_length-le}
+use lib.Seq.{drop-drop, get_or-drop, length-take-le, take-nil}
 use Rattle.replay_script.specs.Places.{has_key, values_of}
 use Rattle.replay_script.specs.Words.{split, after_first, items_of, part}
 use Rattle.word_table.specs.Words.{before, onto}
@@ -44,11 +39,6 @@ found b s from e q h =
 
 pub found_le : (b : ℕ) (s : List ℕ) (from e : ℕ) → e ≡ from + before b (drop from s) → from ≤ length s → e ≤ length s
 found_le b s from e q h = omega (arith, before_le b (drop from s), length-drop from s)
-
--- one byte further
-pub before_turn_lem : (b : ℕ) (s : List ℕ) (i : ℕ) → i < length s → before b (drop i s) ≡ cond (eqb (get_or s i 0) b) 0 (suc (before b (drop (i + 1) s)))
-unfolding before
-before_turn_lem b s i h = rw (add-one, drop-cons s i 0 h)
 
 -- ---- words
 
@@ -155,3 +145,31 @@ module _ (key line : List ℕ) (at e : ℕ) (h : at < length line) (q : e ≡ at
 
   pub values_miss : get_or line at 0 ≡ 32 → has_key key (part (at + 1) e line) ≡ false → values_of key (items_of (drop at line)) ≡ values_of key (items_of (drop e line))
   values_miss s k = ap (values_of key) (items_turn line at e h s q) ∙ no_value key (part (at + 1) e line) (items_of (drop e line)) k
+
+-- ---- how many items there are
+
+some_word : (b : ℕ) (s : List ℕ) → 0 < length (split b s)
+unfolding split
+some_word b [] = omega arith
+some_word b (x ∷ xs) = some_by (eqb x b) (split b xs)
+  where
+    some_by : (t : Bool) (ws : List (List ℕ)) → 0 < length (cond t ([] ∷ ws) (onto x ws))
+    some_by true ws = omega arith
+    some_by false [] = omega arith
+    some_by false (w ∷ ws) = omega arith
+
+more_words : (t : Bool) (x : ℕ) (ws : List (List ℕ)) → 0 < length ws → length (cond t ([] ∷ ws) (onto x ws)) - 1 ≡ cond t (1 + (length ws - 1)) (length ws - 1)
+more_words true x ws h = omega arith
+more_words false x [] h = absurd (omega arith)
+more_words false x (w ∷ ws) h = refl
+
+behind_length : (ws : List (List ℕ)) → length (after_first ws) ≡ length ws - 1
+behind_length [] = omega arith
+behind_length (w ∷ ws) = omega arith
+
+-- one item behind each space
+pub items_length : (line : List ℕ) → length (items_of line) ≡ count_by (λ x. x == 32) line
+unfolding items_of split
+items_length line =
+    behind_length (split 32 line)
+    ∙ is_count_by (λ s. length (split 32 s) - 1) (λ x. x == 32) (omega arith) (λ x xs. more_words (eqb x 32) x (split 32 xs) (some_word 32 xs)) line

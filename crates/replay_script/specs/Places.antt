@@ -1,5 +1,5 @@
 -- The items with a key, and where their values stand in the line.
-use Rattle.std.specs.Prelude.{◌≡◌, Bool, true, false, cond, List, [], ◌∷◌, ℕ, suc, ◌≤◌, ◌<◌, eqb, ltb, length, take, drop, get_or}
+use Rattle.std.specs.Prelude.{◌≡◌, Bool, false, cond, List, [], ◌∷◌, ℕ, suc, ◌≤◌, ◌<◌, eqb, ltb, length, take, drop, get_or, Option, MatchOption}
 use Rattle.arrays.specs.Arrays.{same_bytes}
 use Rattle.replay_script.specs.Words.{items_of, part}
 use Rattle.replay_script.specs.declared.Span.{Span}
@@ -13,20 +13,16 @@ unfoldable pub values_of : List ℕ → List (List ℕ) → List (List ℕ)
 values_of key [] = []
 values_of key (w ∷ ws) = cond (has_key key w) (drop (suc (length key)) w ∷ values_of key ws) (values_of key ws)
 
-abbrev pub no_span : Span
-no_span = record { ok = false; start = 0; end = 0 }
+-- s marks the first value with this key behind the word at `from`
+pub record Marks (line : List ℕ) (from : ℕ) (key : List ℕ) (s : Span) : Type 0 where
+  pub values : values_of key (items_of (drop from line)) ≡ part s.start s.end line ∷ values_of key (items_of (drop s.end line))
+  pub ordered : s.start ≤ s.end
+  pub inside : s.end ≤ length line
+  pub onward : from < s.end
 
--- the part of the line that a span marks, if it marks one, and then `vs`
-unfoldable pub shown : List ℕ → Span → List (List ℕ) → List (List ℕ)
-shown line r vs = cond r.ok (part r.start r.end line ∷ vs) []
-
--- r marks the first value with this key behind the word at `from`; if it marks none, there is none, and where its places lie
--- in the line is open
-pub record Next (line : List ℕ) (from : ℕ) (key : List ℕ) (r : Span) : Type 0 where
-  pub values : values_of key (items_of (drop from line)) ≡ shown line r (values_of key (items_of (drop r.end line)))
-  pub ordered : r.start ≤ r.end
-  pub inside : r.end ≤ length line
-  pub onward : r.ok ≡ true → from < r.end
+-- r marks it; if r is none, there is none
+abbrev pub Next : List ℕ → ℕ → List ℕ → Option Span → Type 0
+Next line from key r = MatchOption r (values_of key (items_of (drop from line)) ≡ []) (Marks line from key)
 
 -- the only one of a list; none if there is none or a second
 abbrev pub only : List (List ℕ) → List (List ℕ)
@@ -43,8 +39,12 @@ unfoldable pub first_of : List (List ℕ) → List ℕ
 first_of [] = []
 first_of (v ∷ vs) = v
 
--- r marks it; if it marks none, there is none, and where its places lie in the line is open
-pub record Only (line : List ℕ) (key : List ℕ) (r : Span) : Type 0 where
-  pub value : item_of key line ≡ shown line r []
-  pub ordered : r.start ≤ r.end
-  pub inside : r.end ≤ length line
+-- s marks it
+pub record MarksOnly (line : List ℕ) (key : List ℕ) (s : Span) : Type 0 where
+  pub value : item_of key line ≡ part s.start s.end line ∷ []
+  pub ordered : s.start ≤ s.end
+  pub inside : s.end ≤ length line
+
+-- r marks it; if r is none, there is none
+abbrev pub Only : List ℕ → List ℕ → Option Span → Type 0
+Only line key r = MatchOption r (item_of key line ≡ []) (MarksOnly line key)

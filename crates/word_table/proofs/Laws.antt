@@ -1,14 +1,10 @@
 -- Laws of lines and places.
-use mathlib.Core.Path.{◌≡◌, refl, ap, ◌∙◌}
-use mathlib.Core.Bool.{Bool, true, false, cond}
-use mathlib.Core.List.{List, [], ◌∷◌}
-use Prim.Native.Nat.{ℕ, suc, ◌+◌, ◌-◌, ◌≤◌, ◌<◌}
-use native.Mathlib.Numerals.{add-one}
-use native.Mathlib.Omega.{arith}
+use Rattle.std.proofs.Common.{◌≡◌, refl, ap, ◌∙◌, Bool, true, false, cond, List, [], ◌∷◌, ℕ, suc, ◌+◌, ◌-◌, ◌≤◌, ◌<◌, min, eqb, length, take, drop, get_or, add-one, arith, length-drop, drop-cons}
+use Rattle.std.proofs.lemmas.List.{take_all, drop_min}
 use borrow.Author.Tests.{eq-eqb, ne_eqb}
-use lib.Dec.{eqb}
-use lib.ListN.{length, take, drop, get_or, drop_of_length-le, length-drop}
-use lib.Seq.{drop-cons, drop-drop}
+use lib.ListN.{drop_of_length-le}
+use lib.Seq.{drop-drop}
+use native.Mathlib.Nat.{sub-zero}
 use Rattle.arrays.specs.Arrays.{same_bytes}
 use Rattle.word_table.specs.Words.{before, onto, lines_of, name_of, place_in}
 
@@ -72,26 +68,34 @@ module _ (b : ℕ) where
   unfolding lines_of
   lines_end s at h = rw (drop_of_length-le s h)
 
--- the row is the first, or stands behind it
-module _ (s : List ℕ) (n at e : ℕ) (h : at < length s) (q : e ≡ at + before 10 (drop at s)) where
-  pub place_hit : (w : List ℕ) → place_in (lines_of 10 s) w ≡ n + place_in (lines_of 10 (drop at s)) w
-      → same_bytes w (name_of (take (e - at) (drop at s))) ≡ true → n ≡ place_in (lines_of 10 s) w
-  unfolding place_in
-  place_hit w inv t = rw (inv, lines_cut 10 s at e h q, t) (omega arith)
+-- the first piece, and the pieces behind it, where the end of the text may come before a b
+pub first_cut : (b : ℕ) (s : List ℕ) (e m : ℕ) → 0 < length s → e ≡ before b s → m ≡ min (e + 1) (length s) → lines_of b s ≡ take e s ∷ lines_of b (take (length s - m) (drop m s))
+first_cut b s e m h q w =
+    let k = lines_cut b s 0 e h (omega arith) in
+    let f : take (length s - m) (drop m s) ≡ drop (e + 1) s = take_all (length s - m) (drop m s) (omega (arith, length-drop m s)) ∙ (ap (λ (x : ℕ). drop x s) w ∙ drop_min (e + 1) s) in
+    rw f (k ∙ ap (λ (n : ℕ). take n s ∷ lines_of b (drop (e + 1) s)) (sub-zero e))
 
-  pub place_miss : (w : List ℕ) → place_in (lines_of 10 s) w ≡ n + place_in (lines_of 10 (drop at s)) w
-      → same_bytes w (name_of (take (e - at) (drop at s))) ≡ false → place_in (lines_of 10 s) w ≡ n + 1 + place_in (lines_of 10 (drop (e + 1) s)) w
-  unfolding place_in
-  place_miss w inv t = rw (inv, lines_cut 10 s at e h q, t) (omega arith)
+pub no_bytes : (s : List ℕ) → length s ≡ 0 → s ≡ []
+no_bytes [] h = refl
+no_bytes (x ∷ xs) h = absurd (omega arith)
 
-  pub row_here : (k : ℕ) → get_or (lines_of 10 s) k [] ≡ get_or (lines_of 10 (drop at s)) n [] → n ≡ 0 → take (e - at) (drop at s) ≡ get_or (lines_of 10 s) k []
-  row_here k inv z = rw (inv, lines_cut 10 s at e h q, z)
-
-  pub row_on : (k : ℕ) → get_or (lines_of 10 s) k [] ≡ get_or (lines_of 10 (drop at s)) n [] → (n ≡ 0 → ⊥) → get_or (lines_of 10 s) k [] ≡ get_or (lines_of 10 (drop (e + 1) s)) (n - 1) []
-  row_on k inv z =
-      let f : n ≡ suc (n - 1) = omega arith in
-      inv ∙ (rw (lines_cut 10 s at e h q) (ap (λ (m : ℕ). get_or (take (e - at) (drop at s) ∷ lines_of 10 (drop (e + 1) s)) m []) f))
-
-pub place_end : (s w : List ℕ) (n at : ℕ) → length s ≤ at → place_in (lines_of 10 s) w ≡ n + place_in (lines_of 10 (drop at s)) w → n ≡ place_in (lines_of 10 s) w
+-- among rows, the first has the name, or not
+pub place_hit : (rows : List (List ℕ)) (row w : List ℕ) (more : List (List ℕ)) → rows ≡ row ∷ more → same_bytes w (name_of row) ≡ true → place_in rows w ≡ 0
 unfolding place_in
-place_end s w n at h inv = rw (inv, lines_end 10 s at h) (omega arith)
+place_hit rows row w more e t = rw (e, t)
+
+pub place_miss : (rows : List (List ℕ)) (row w : List ℕ) (more : List (List ℕ)) → rows ≡ row ∷ more → same_bytes w (name_of row) ≡ false → place_in rows w ≡ 1 + place_in more w
+unfolding place_in
+place_miss rows row w more e t = rw (e, t) (omega arith)
+
+pub place_none : (s w : List ℕ) → s ≡ [] → place_in (lines_of 10 s) w ≡ 0
+unfolding place_in lines_of
+place_none s w e = rw e
+
+-- the row n steps further
+pub row_step : (rows : List (List ℕ)) (row : List ℕ) (more : List (List ℕ)) (n : ℕ) → rows ≡ row ∷ more → 0 < n → get_or rows n [] ≡ get_or more (n - 1) []
+row_step rows row more n e h = let f : n ≡ suc (n - 1) = omega arith in rw e (ap (λ (m : ℕ). get_or (row ∷ more) m []) f)
+
+pub row_none : (s : List ℕ) (n : ℕ) → s ≡ [] → s ≡ get_or (lines_of 10 s) n []
+unfolding lines_of
+row_none s n e = rw e

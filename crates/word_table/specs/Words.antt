@@ -1,6 +1,5 @@
 -- The lines of a text, and the place of a word in a list of words.
-use Rattle.std.specs.Prelude.{cond, List, [], ◌∷◌, ◌≡◌, ℕ, suc, ◌+◌, ◌-◌, ◌≤◌, eqb, length, take, drop, get_or}
-use Rattle.word_table.specs.declared.Part.{Part}
+use Rattle.std.specs.Prelude.{cond, List, [], ◌∷◌, ℕ, suc, ◌+◌, eqb, take, drop}
 use Rattle.arrays.specs.Arrays.{same_bytes}
 
 -- how many bytes stand before the first b
@@ -29,9 +28,3 @@ rest_of row = drop (before 32 row + 1) row
 unfoldable pub place_in : List (List ℕ) → List ℕ → ℕ
 place_in [] w = 0
 place_in (x ∷ xs) w = cond (same_bytes w (name_of x)) 0 (suc (place_in xs w))
-
--- a part of the text that is its row n. What stands there is fixed; where it stands is open if it stands there twice
-pub record RowAt (text : List ℕ) (n : ℕ) (r : Part) : Type 0 where
-  pub ordered : r.0 ≤ r.1
-  pub inside : r.1 ≤ length text
-  pub row : take (r.1 - r.0) (drop r.0 text) ≡ get_or (lines_of 10 text) n []

@@ -1,12 +1,9 @@
-use mathlib.Core.Path.{sym, ◌∙◌, ap}
-use Prim.Native.Nat.{◌+◌}
-use native.Mathlib.Omega.{arith}
-use Rattle.replay_script.specs.Places.{values_of, shown}
-use Rattle.replay_script.proofs.Laws.{found, items_from, items_end, values_none, word_inside, key_inside, values_hit, values_miss, never}
+use Rattle.std.proofs.Common.{◌+◌, ◌∙◌, ap, arith, sym}
+use Rattle.replay_script.specs.Places.{values_of}
+use Rattle.replay_script.proofs.Laws.{found, items_from, items_end, values_none, word_inside, key_inside, values_hit, values_miss}
 use Rattle.replay_script.proofs.next.Goals as goal
 
 pub loop-at-init : goal.loop-at-init
-unfolding shown
 loop-at-init c =
     let a = c.args in
     let line = a.line.now in
@@ -14,35 +11,13 @@ loop-at-init c =
     (omega arith, ap (values_of a.key.now) (items_from line a.from c.find-at.result q), found 32 line a.from c.find-at.result q)
 
 pub slice_bounds-has_key-count : goal.slice_bounds-has_key-count
-unfolding shown
-slice_bounds-has_key-count c =
-    let a = c.args in
-    omega (arith, word_inside a.key.now a.line.now c.loop-at.at c.find-end.result (omega arith) c.find-end.ensures)
-
-pub slice_bounds-has_key-start : goal.slice_bounds-has_key-start
-unfolding shown
-slice_bounds-has_key-start c =
-    let a = c.args in
-    omega (arith, word_inside a.key.now a.line.now c.loop-at.at c.find-end.result (omega arith) c.find-end.ensures)
+slice_bounds-has_key-count c = omega (arith, word_inside c.args.key.now c.args.line.now c.loop-at.at c.find-end.result (omega arith) c.find-end.ensures)
 
 pub slice_bounds-has_key-end : goal.slice_bounds-has_key-end
-unfolding shown
-slice_bounds-has_key-end c =
-    let a = c.args in
-    omega (arith, word_inside a.key.now a.line.now c.loop-at.at c.find-end.result (omega arith) c.find-end.ensures)
+slice_bounds-has_key-end c = omega (arith, word_inside c.args.key.now c.args.line.now c.loop-at.at c.find-end.result (omega arith) c.find-end.ensures)
 
-pub overflow_add-result : goal.overflow_add-result
-unfolding shown
-overflow_add-result c =
-    let a = c.args in
-    let f = c.find-end in
-    let at = c.loop-at.at in
-    let inside = word_inside a.key.now a.line.now at f.result (omega arith) f.ensures in
-    omega (arith, key_inside a.key.now a.line.now at f.result (omega arith) f.ensures (sym c.has_key.ensures ∙ c.if-has_key.true))
-
-pub overflow_add-result-then-has_key : goal.overflow_add-result-then-has_key
-unfolding shown
-overflow_add-result-then-has_key c =
+pub overflow_add-start : goal.overflow_add-start
+overflow_add-start c =
     let a = c.args in
     let f = c.find-end in
     let at = c.loop-at.at in
@@ -50,7 +25,6 @@ overflow_add-result-then-has_key c =
     omega (arith, key_inside a.key.now a.line.now at f.result (omega arith) f.ensures (sym c.has_key.ensures ∙ c.if-has_key.true))
 
 pub returns-then-has_key : goal.returns-then-has_key
-unfolding shown
 returns-then-has_key c =
     let line = c.args.line.now in
     let key = c.args.key.now in
@@ -62,15 +36,10 @@ returns-then-has_key c =
       values = l.invariant.1 ∙ values_hit key line l.at f.result (omega arith) f.ensures (l.invariant.2 (omega arith)) hit;
       ordered = omega arith;
       inside = word_inside key line l.at f.result (omega arith) f.ensures;
-      onward = λ ok. omega arith;
+      onward = omega arith;
     }
 
-pub loop-at-smaller : goal.loop-at-smaller
-unfolding shown
-loop-at-smaller c = omega (arith, c.find-end.ensures)
-
 pub loop-at-preserved : goal.loop-at-preserved
-unfolding shown
 loop-at-preserved c =
     let line = c.args.line.now in
     let key = c.args.key.now in
@@ -83,14 +52,7 @@ loop-at-preserved c =
     )
 
 pub returns : goal.returns
-unfolding shown
 returns c =
     let a = c.args in
     let l = c.loop-at in
-    rw c.no_span.ensures
-    (record {
-      values = l.invariant.1 ∙ (ap (values_of a.key.now) (items_end a.line.now l.at (omega arith)) ∙ values_none a.key.now);
-      ordered = omega arith;
-      inside = omega arith;
-      onward = never;
-    })
+    l.invariant.1 ∙ (ap (values_of a.key.now) (items_end a.line.now l.at (omega arith)) ∙ values_none a.key.now)

@@ -1,7 +1,5 @@
 -- The invariant: the values behind `from` are those behind `at`, where a space stands or the line ends.
-use mathlib.Core.Path.{◌≡◌}
-use Prim.Native.Nat.{◌-◌, ◌≤◌, ◌<◌}
-use lib.ListN.{length, drop, get_or}
+use Rattle.std.proofs.Common.{◌≡◌, ◌-◌, ◌≤◌, ◌<◌, length, drop, get_or}
 use Rattle.replay_script.specs.Words.{items_of}
 use Rattle.replay_script.specs.Places.{values_of}
 use Rattle.replay_script.proofs.next.Given as goal

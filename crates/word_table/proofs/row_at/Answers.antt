@@ -1,49 +1,23 @@
-use native.Mathlib.Omega.{arith}
-use Rattle.word_table.proofs.Laws.{end_inside, row_here, row_on, lines_end}
+use Rattle.std.proofs.Common.{◌≡◌, ◌+◌, ◌-◌, ℕ, ap, arith, sym, ◌∙◌, get_or, []}
+use Rattle.word_table.proofs.Laws.{row_step, row_none}
+use Rattle.word_table.specs.Words.{lines_of}
 use Rattle.word_table.proofs.row_at.Goals as goal
 
-pub returns-then-k-eq0 : goal.returns-then-k-eq0
-returns-then-k-eq0 c =
-    let s = c.args.text.now in
-    let l = c.loop-at in
-    let e = c.end_of-end in
-    let h = end_inside 10 s l.at e.result (omega arith) e.ensures in
-    record {
-      ordered = omega arith;
-      inside = omega arith;
-      row = row_here s l.k l.at e.result (omega arith) e.ensures c.args.n l.invariant c.if-k-eq0.true;
-    }
+pub returns-in-None : goal.returns-in-None
+returns-in-None c = row_none c.loop.rows.now (c.args.n - c.loop.counter) c.in-None.ensures.pieces ∙ sym c.loop.invariant
 
-pub overflow_add-at : goal.overflow_add-at
-overflow_add-at c =
-    let s = c.args.text.now in
-    let l = c.loop-at in
-    let e = c.end_of-end in
-    let h = end_inside 10 s l.at e.result (omega arith) e.ensures in
-    omega arith
+pub loop-preserved : goal.loop-preserved
+loop-preserved c =
+    let n = c.args.n - c.loop.counter in
+    let less : n - 1 ≡ c.args.n - (c.loop.counter + 1) = omega arith in
+    c.loop.invariant
+    ∙ row_step _ _ _ n c.in-Some.ensures.pieces (omega arith)
+    ∙ ap (λ (m : ℕ). get_or (lines_of 10 c.in-Some.rest.now) m []) less
 
-pub loop-at-smaller : goal.loop-at-smaller
-loop-at-smaller c =
-    let s = c.args.text.now in
-    let l = c.loop-at in
-    let e = c.end_of-end in
-    let h = end_inside 10 s l.at e.result (omega arith) e.ensures in
-    omega arith
+pub returns-in-Some-first_piece : goal.returns-in-Some-first_piece
+returns-in-Some-first_piece c =
+    let here : c.args.n - c.loop.counter ≡ 0 = omega arith in
+    sym (c.loop.invariant ∙ rw (here, c.in-Some-first_piece.ensures.pieces))
 
-pub loop-at-preserved : goal.loop-at-preserved
-loop-at-preserved c =
-    let s = c.args.text.now in
-    let l = c.loop-at in
-    let e = c.end_of-end in
-    let h = end_inside 10 s l.at e.result (omega arith) e.ensures in
-    row_on s l.k l.at e.result (omega arith) e.ensures c.args.n l.invariant c.if-k-eq0.false
-
-pub returns : goal.returns
-returns c =
-    let s = c.args.text.now in
-    let l = c.loop-at in
-    record {
-      ordered = omega arith;
-      inside = omega arith;
-      row = rw (l.invariant, lines_end 10 s l.at (omega arith));
-    }
+pub returns-in-None-first_piece : goal.returns-in-None-first_piece
+returns-in-None-first_piece c = row_none c.loop.rows.now (c.args.n - c.loop.counter) c.in-None-first_piece.ensures.pieces ∙ sym c.loop.invariant

@@ -1,13 +1,7 @@
--- The invariant: the row at n is the row at k of the text from `at` on.
-use mathlib.Core.Path.{◌≡◌}
-use mathlib.Core.List.{[]}
-use Prim.Native.Nat.{◌-◌}
-use lib.ListN.{length, drop, get_or}
+-- The invariant: the row at n is the row at n - counter of the rows that are left.
+use Rattle.std.proofs.Common.{◌≡◌, [], ◌-◌, get_or}
 use Rattle.word_table.specs.Words.{lines_of}
 use Rattle.word_table.proofs.row_at.Given as goal
 
-abbrev pub invariant-loop-at : goal.invariant-loop-at
-invariant-loop-at l = get_or (lines_of 10 l.text) l.n [] ≡ get_or (lines_of 10 (drop l.at l.text)) l.k []
-
-abbrev pub decreases-loop-at : goal.decreases-loop-at
-decreases-loop-at l = length l.text - l.at
+abbrev pub invariant-loop : goal.invariant-loop
+invariant-loop l = get_or (lines_of 10 l.text) l.n [] ≡ get_or (lines_of 10 l.rows) (l.n - l.counter) []
