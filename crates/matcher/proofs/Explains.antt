@@ -1,14 +1,7 @@
 -- Giving frames the first entry that fits loses nothing, where the times never fall.
-use mathlib.Core.Path.{◌≡◌, refl, sym, ◌∙◌, fun_ext}
-use mathlib.Core.Bool.{Bool, true, false, cond, false≢true}
-use mathlib.Core.List.{List, [], ◌∷◌, ◌++◌}
-use mathlib.Core.Logic.{◌⊎◌, inl, inr, ◌↔◌}
-use Prim.Native.Nat.{ℕ, ◌+◌, ◌≤◌, ◌<◌}
-use native.Mathlib.Omega.{arith}
-use borrow.Author.Tests.{eq-eqb, ne_eqb, le-leb, leb-true, ltb-true, ltb-false}
-use lib.Dec.{eqb, ltb}
-use lib.ListN.{length, get_or}
-use Rattle.matcher.specs.declared.Found.TheVariants.{Nothing}
+use mathlib.Core.Path.{fun_ext}
+use mathlib.Core.Bool.{false≢true}
+use Rattle.std.proofs.Common.{◌≡◌, refl, sym, ◌∙◌, Bool, true, false, cond, List, [], ◌∷◌, ◌++◌, ◌⊎◌, inl, inr, ◌↔◌, ℕ, ◌+◌, ◌≤◌, ◌<◌, arith, eq-eqb, ne_eqb, le-leb, leb-true, ltb-true, ltb-false, eqb, ltb, length, get_or, None}
 use Rattle.log_entries.specs.Entries.{Entry, fits}
 use Rattle.matcher.specs.Match.{no_entry, without, can_take, explains}
 use Rattle.matcher.specs.Greedy.{first_fit}
@@ -138,7 +131,7 @@ module _ (js : List Entry) (free : ℕ → Bool) (r : Entry) (rs : List Entry) w
   unfolding can_take
   takes e w = rw (w.spare, w.fit)
 
-  pub choose_none : first_fit js free r ≡ Nothing → explains js free (r ∷ rs) ≡ false
+  pub choose_none : first_fit js free r ≡ None → explains js free (r ∷ rs) ≡ false
   unfolding first_fit
   choose_none h = not_truth _ λ p.
       let w = explains_to js free r rs p in

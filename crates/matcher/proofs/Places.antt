@@ -1,12 +1,7 @@
 -- A place at which a test passes: some place below n, and the first one.
-use mathlib.Core.Path.{◌≡◌, refl}
-use mathlib.Core.Bool.{Bool, true, false, cond, false≢true}
-use mathlib.Core.Logic.{◌⊎◌, inl, inr}
-use Prim.Native.Nat.{ℕ, zero, suc, ◌+◌, ◌≤◌, ◌<◌}
-use native.Mathlib.Omega.{arith}
-use borrow.Author.Tests.{eqb-true, eqb-false}
-use lib.Dec.{eqb}
-use Rattle.matcher.specs.declared.Found.TheVariants.{At, Nothing}
+use mathlib.Core.Bool.{false≢true}
+use Rattle.std.proofs.Common.{◌≡◌, refl, Bool, true, false, cond, ◌⊎◌, inl, inr, ℕ, zero, suc, ◌+◌, ◌≤◌, ◌<◌, arith, eqb, eqb-true, Some, None}
+use borrow.Author.Tests.{eqb-false}
 use Rattle.matcher.specs.Match.{some_below, first_at}
 use Rattle.arrays.proofs.Laws.{cond_same}
 
@@ -78,16 +73,16 @@ first_here f k n a e q = record {
   before = λ b h l. absurd (omega arith);
 }
 
-pub first_at_lem : (f : ℕ → Bool) (k n a : ℕ) → first_at f k n ≡ At a → First f k n a
+pub first_at_lem : (f : ℕ → Bool) (k n a : ℕ) → first_at f k n ≡ Some a → First f k n a
 unfolding first_at
-first_at_lem f k zero a h = let z : ◌≡◌ {A = ℕ} 0 1 = cc in absurd (omega arith)
+first_at_lem f k zero a h = cc
 first_at_lem f k (suc n) a h = go (f k) refl (first_at_lem f (suc k) n a)
   where
-    go : (s : Bool) → f k ≡ s → (first_at f (suc k) n ≡ At a → First f (suc k) n a) → First f k (suc n) a
-    go true p ih = let q : At k ≡ At a = rw p at h in first_here f k n a p (cc)
+    go : (s : Bool) → f k ≡ s → (first_at f (suc k) n ≡ Some a → First f (suc k) n a) → First f k (suc n) a
+    go true p ih = let q : Some k ≡ Some a = rw p at h in first_here f k n a p (cc)
     go false p ih = first_later f k n a p (ih (rw p at h))
 
-pub first_none : (f : ℕ → Bool) (k n : ℕ) → first_at f k n ≡ Nothing → (b : ℕ) → k ≤ b → b < k + n → f b ≡ false
+pub first_none : (f : ℕ → Bool) (k n : ℕ) → first_at f k n ≡ None → (b : ℕ) → k ≤ b → b < k + n → f b ≡ false
 unfolding first_at
 first_none f k zero h b l u = absurd (omega arith)
 first_none f k (suc n) h b l u = go (f k) refl (first_none f (suc k) n)
@@ -96,14 +91,11 @@ first_none f k (suc n) h b l u = go (f k) refl (first_none f (suc k) n)
     other p (inl q) ih = rw q p
     other p (inr q) ih = ih (omega arith)
 
-    go : (s : Bool) → f k ≡ s → (first_at f (suc k) n ≡ Nothing → (b : ℕ) → suc k ≤ b → b < suc k + n → f b ≡ false) → f b ≡ false
-    go true p ih =
-        let q : At k ≡ Nothing = rw p at h in
-        let z : ◌≡◌ {A = ℕ} 0 1 = cc in
-        absurd (omega arith)
+    go : (s : Bool) → f k ≡ s → (first_at f (suc k) n ≡ None → (b : ℕ) → suc k ≤ b → b < suc k + n → f b ≡ false) → f b ≡ false
+    go true p ih = let q : Some k ≡ None = rw p at h in cc
     go false p ih = other p (decide b k) (λ m. ih (rw p at h) b m (omega arith))
 
-pub none_first : (f : ℕ → Bool) (k n : ℕ) → ((b : ℕ) → k ≤ b → b < k + n → f b ≡ false) → first_at f k n ≡ Nothing
+pub none_first : (f : ℕ → Bool) (k n : ℕ) → ((b : ℕ) → k ≤ b → b < k + n → f b ≡ false) → first_at f k n ≡ None
 unfolding first_at
 none_first f k zero h = refl
 none_first f k (suc n) h = rw (h k (omega arith) (omega arith)) (none_first f (suc k) n (λ b l u. h b (omega arith) (omega arith)))

@@ -1,14 +1,14 @@
 -- What the matcher answers. `explains`, `verdict` and `match_of` are to be believed; how entries are chosen is no part of them.
-use Rattle.std.specs.Prelude.{Bool, true, false, cond, not, List, [], ◌∷◌, ℕ, zero, suc, eqb, ltb, length, take, get_or}
+use Rattle.std.specs.Prelude.{Bool, true, false, cond, not, List, [], ◌∷◌, ℕ, zero, suc, eqb, ltb, length, take, get_or, Option, Some, None, Result, Ok, Err}
 use Rattle.frames.specs.declared.Id.TheVariants.{Standard}
 use Rattle.frames.specs.declared.CanFrame.{CanFrame}
 use Rattle.matcher.specs.declared.FrameLog.{FrameLog}
 use Rattle.matcher.specs.declared.Log.{Log}
 use Rattle.matcher.specs.declared.Log.TheVariants.{Journal, Recorder}
-use Rattle.matcher.specs.declared.Found.{Found}
-use Rattle.matcher.specs.declared.Found.TheVariants.{At, Nothing}
-use Rattle.matcher.specs.declared.MatchAnswer.{MatchAnswer}
-use Rattle.matcher.specs.declared.MatchAnswer.TheVariants.{Matched, StopsAt, BadLine, TimeBack, TooManyLines}
+use Rattle.matcher.specs.declared.Match.{Match}
+use Rattle.matcher.specs.declared.Match.TheVariants.{Matched, StopsAt}
+use Rattle.matcher.specs.declared.LogFault.{LogFault}
+use Rattle.matcher.specs.declared.LogFault.TheVariants.{BadLine, TimeBack, TooManyLines}
 use Rattle.log_entries.specs.Entries.{Entry, entry, fits}
 
 -- ---- entries
@@ -51,16 +51,16 @@ explains js free [] = true
 explains js free (r ∷ rs) = some_below (length js) (λ (e : ℕ). cond (can_take js free r e) (explains js (without e free) rs) false)
 
 -- the first of the numbers k, k + 1, .. at which a test passes, if there is one among n of them
-unfoldable pub first_at : (ℕ → Bool) → ℕ → ℕ → Found
-first_at f k zero = Nothing
-first_at f k (suc n) = cond (f k) (At k) (first_at f (suc k) n)
+unfoldable pub first_at : (ℕ → Bool) → ℕ → ℕ → Option ℕ
+first_at f k zero = None
+first_at f k (suc n) = cond (f k) (Some k) (first_at f (suc k) n)
 
-abbrev pub stops : Found → MatchAnswer
-stops (At k) = StopsAt k
-stops Nothing = Matched
+abbrev pub stops : Option ℕ → Match
+stops (Some k) = StopsAt k
+stops None = Matched
 
 -- the least k from 1 for which the first k recorded frames cannot all be given entries of the whole journal
-unfoldable pub verdict : List Entry → List Entry → MatchAnswer
+unfoldable pub verdict : List Entry → List Entry → Match
 verdict js rs = stops (first_at (λ (k : ℕ). not (explains js all_free (take k rs))) 1 (length rs))
 
 -- ---- checks
@@ -70,29 +70,31 @@ unfoldable pub wrong_size : ℕ → List ℕ → Bool
 wrong_size n ts = cond (ltb 512 n) true (not (eqb n (length ts)))
 
 -- 37: the number of the first time below the one before it; k is the first one's number, and t the time before it
-unfoldable pub fall_from : ℕ → ℕ → List ℕ → Found
-fall_from k t [] = Nothing
-fall_from k t (u ∷ us) = cond (ltb u t) (At k) (fall_from (suc k) u us)
+unfoldable pub fall_from : ℕ → ℕ → List ℕ → Option ℕ
+fall_from k t [] = None
+fall_from k t (u ∷ us) = cond (ltb u t) (Some k) (fall_from (suc k) u us)
 
-unfoldable pub first_fall : List ℕ → Found
+unfoldable pub first_fall : List ℕ → Option ℕ
 first_fall ts = fall_from 1 0 ts
 
-abbrev pub or_back : Log → Found → MatchAnswer → MatchAnswer
-or_back l (At n) a = TimeBack l n
-or_back l Nothing a = a
+abbrev pub or_back : Log → Option ℕ → Result Match LogFault → Result Match LogFault
+or_back l (Some n) a = Err (TimeBack l n)
+or_back l None a = a
 
 -- 38 of either log, then 37 of either, then the verdict
-unfoldable pub match_of : FrameLog → List ℕ → FrameLog → List ℕ → MatchAnswer
+unfoldable pub match_of : FrameLog → List ℕ → FrameLog → List ℕ → Result Match LogFault
 match_of journal sent recorder seen =
-    cond (wrong_size journal.count sent) (TooManyLines Journal)
-    (cond (wrong_size recorder.count seen) (TooManyLines Recorder)
+    cond (wrong_size journal.count sent) (Err (TooManyLines Journal))
+    (cond (wrong_size recorder.count seen) (Err (TooManyLines Recorder))
     (or_back Journal (first_fall sent)
     (or_back Recorder (first_fall seen)
-    (verdict (entries_of journal sent) (entries_of recorder seen)))))
+    (Ok (verdict (entries_of journal sent) (entries_of recorder seen))))))
 
-abbrev pub number_of : MatchAnswer → ℕ
-number_of Matched = 0
-number_of (StopsAt k) = 0
-number_of (BadLine l n) = 36
-number_of (TimeBack l n) = 37
-number_of (TooManyLines l) = 38
+abbrev pub fault_number : LogFault → ℕ
+fault_number (BadLine l n) = 36
+fault_number (TimeBack l n) = 37
+fault_number (TooManyLines l) = 38
+
+abbrev pub number_of : Result Match LogFault → ℕ
+number_of (Ok a) = 0
+number_of (Err e) = fault_number e

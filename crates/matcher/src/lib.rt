@@ -2,9 +2,9 @@
 // a log stand in the first `count` places of its array, and the rest is not looked at. Times are lent beside the frames.
 #![tactic(auto)]
 
-ghost use Rattle.std.specs.Prelude.{◌≡◌, false, cond};
-ghost use Rattle.log_entries.specs.Entries.{entry, fits};
-ghost use Rattle.matcher.specs.Match.{entries_of, wrong_size, first_fall, number_of, match_of};
+ghost use Rattle.std.specs.Prelude.{◌≡◌, ℕ, ◌≤◌, true, false, length, MatchResult};
+ghost use Rattle.log_entries.specs.Entries.{entry};
+ghost use Rattle.matcher.specs.Match.{paired, wrong_size, first_fall, number_of, fault_number, match_of};
 ghost use Rattle.matcher.specs.Greedy.{free_in, first_fit, greedy, Sized};
 
 use frames::CanFrame;
@@ -15,113 +15,113 @@ pub struct FrameLog {
     pub count: usize,
 }
 
-#[derive(Clone, Copy)]
+#[derive(Clone, Copy, PartialEq, Eq)]
 pub enum Log {
     Journal,
     Recorder,
 }
 
-#[derive(Clone, Copy)]
-pub enum MatchAnswer {
+// Whether a journal explains a recorder; if not, the number, from 1, of the first recorded frame at which a match stops being possible.
+#[derive(Clone, Copy, PartialEq, Eq)]
+pub enum Match {
     Matched,
     StopsAt(usize),
+}
+
+// Why two logs are not matched. Lines count from 1.
+#[derive(Clone, Copy, PartialEq, Eq)]
+pub enum LogFault {
     BadLine(Log, usize),
     TimeBack(Log, usize),
     TooManyLines(Log),
 }
 
-// A place, or the number of a line.
-#[derive(Clone, Copy)]
-pub enum Found {
-    At(usize),
-    Nothing,
+impl LogFault {
+    // The number of a refusal.
+    pub fn number(self) -> u8
+        ensures { result ≡ fault_number self }
+    {
+        match self {
+            LogFault::BadLine(_, _) => 36,
+            LogFault::TimeBack(_, _) => 37,
+            LogFault::TooManyLines(_) => 38,
+        }
+    }
 }
 
 // The number of an answer: 0 for yes and no, and that of a refusal.
-pub fn answer_number(answer: MatchAnswer) -> u8
+pub fn answer_number(answer: Result<Match, LogFault>) -> u8
     ensures { result ≡ number_of answer }
 {
     match answer {
-        MatchAnswer::Matched => 0,
-        MatchAnswer::StopsAt(_) => 0,
-        MatchAnswer::BadLine(_, _) => 36,
-        MatchAnswer::TimeBack(_, _) => 37,
-        MatchAnswer::TooManyLines(_) => 38,
+        Ok(_) => 0,
+        Err(fault) => fault.number(),
     }
-}
-
-// Whether an entry that is taken already or not can be given to a frame.
-fn can_take(taken: bool, j: CanFrame, sent: u64, f: CanFrame, seen: u64) -> bool
-    ensures { result ≡ cond taken false (fits (entry sent j) (entry seen f)) }
-{
-    if taken {
-        return false;
-    }
-    log_entries::is_fit(j, sent, f, seen)
 }
 
 // The first place of the journal that is free and fits.
-fn first_fit(journal: FrameLog, sent: &[u64], used: [bool; 512], f: CanFrame, seen: u64) -> Found
-    requires { Sized journal sent.now }
-    ensures { result ≡ first_fit (entries_of journal sent.now) (free_in used) (entry seen f) }
+fn first_fit(
+    journal: &[CanFrame],
+    sent: &[u64],
+    used: &[bool; 512],
+    f: CanFrame,
+    seen: u64,
+) -> Option<usize>
+    requires { Sized journal.now sent.now }
+    ensures { result ≡ first_fit (paired sent.now journal.now) (free_in used.now) (entry seen f) }
 {
-    let n = journal.count;
-    let mut i = 0;
-    while i < n {
-        let j = journal.frames[i];
-        let taken = used[i];
-        if can_take(taken, j, sent[i], f, seen) {
-            return Found::At(i);
-        }
-        i += 1;
-    }
-    Found::Nothing
+    let mut entries = journal.iter().zip(sent).zip(used);
+    entries.position(|((j, t), taken)| !*taken && log_entries::is_fit(*j, *t, f, seen))
 }
 
 // Each recorded frame in turn is given the first entry that is free and fits.
-fn assign(journal: FrameLog, sent: &[u64], recorder: FrameLog, seen: &[u64]) -> MatchAnswer
-    requires { Sized journal sent.now × Sized recorder seen.now }
-    ensures { result ≡ greedy (entries_of journal sent.now) (entries_of recorder seen.now) }
+fn assign(journal: &[CanFrame], sent: &[u64], recorder: &[CanFrame], seen: &[u64]) -> Match
+    requires { Sized journal.now sent.now × Sized recorder.now seen.now }
+    ensures { result ≡ greedy (paired sent.now journal.now) (paired seen.now recorder.now) }
 {
-    let n = recorder.count;
     let mut used = [false; 512];
-    let mut i = 0;
-    while i < n {
-        let f = recorder.frames[i];
-        let Found::At(e) = first_fit(journal, sent, used, f, seen[i]) else {
-            return MatchAnswer::StopsAt(i + 1);
+    for (i, f) in recorder.iter().enumerate() {
+        let Some(e) = first_fit(journal, sent, &used, *f, seen[i]) else {
+            return Match::StopsAt(i + 1);
         };
         used[e] = true;
-        i += 1;
     }
-    MatchAnswer::Matched
-}
-
-// Whether a log has over 512 frames, or not as many times.
-fn is_wrong_size(count: usize, times: &[u64]) -> bool
-    ensures { result ≡ wrong_size count times.now }
-{
-    if 512 < count {
-        return true;
-    }
-    count != times.len()
+    Match::Matched
 }
 
 // The number, from 1, of the first time that is below the one before it.
-fn first_fall(times: &[u64]) -> Found
+fn first_fall(times: &[u64]) -> Option<usize>
     ensures { result ≡ first_fall times.now }
 {
     let mut last = 0;
-    let mut line = 0;
-    while line < times.len() {
-        let t = times[line];
-        line += 1;
-        if t < last {
-            return Found::At(line);
+    for (i, t) in times.iter().enumerate() {
+        if *t < last {
+            return Some(i + 1);
         }
-        last = t;
+        last = *t;
     }
-    Found::Nothing
+    None
+}
+
+// A log has at most 512 frames, and as many times.
+#[tactic(auto, unfolding(crate::specs::Match::wrong_size))]
+fn check_size(log: Log, count: usize, times: &[u64]) -> Result<(), LogFault>
+    ensures { MatchResult result (λ _. (wrong_size count times.now ≡ false) × (count ≤ 512) × (count ≡ length times.now)) (λ e. (wrong_size count times.now ≡ true) × (e ≡ LogFault.TooManyLines log)) }
+{
+    if count > 512 || count != times.len() {
+        return Err(LogFault::TooManyLines(log));
+    }
+    Ok(())
+}
+
+// The times of a log never fall.
+fn check_times(log: Log, times: &[u64]) -> Result<(), LogFault>
+    ensures { MatchResult result (λ _. first_fall times.now ≡ None) (λ e. (line : ℕ) × (first_fall times.now ≡ Some line) × (e ≡ LogFault.TimeBack log line)) }
+{
+    match first_fall(times) {
+        Some(line) => Err(LogFault::TimeBack(log, line)),
+        None => Ok(()),
+    }
 }
 
 // Yes, or the line number of the first recorded frame at which a match stops being possible; 38 and 37 first.
@@ -131,24 +131,14 @@ pub fn match_logs(
     journal_times: &[u64],
     recorder: FrameLog,
     recorder_times: &[u64],
-) -> MatchAnswer
+) -> Result<Match, LogFault>
     ensures { result ≡ match_of journal journal_times.now recorder recorder_times.now }
 {
-    if is_wrong_size(journal.count, journal_times) {
-        return MatchAnswer::TooManyLines(Log::Journal);
-    }
-    if is_wrong_size(recorder.count, recorder_times) {
-        return MatchAnswer::TooManyLines(Log::Recorder);
-    }
-    let sent = first_fall(journal_times);
-    match sent {
-        Found::At(n) => MatchAnswer::TimeBack(Log::Journal, n),
-        Found::Nothing => {
-            let seen = first_fall(recorder_times);
-            match seen {
-                Found::At(n) => MatchAnswer::TimeBack(Log::Recorder, n),
-                Found::Nothing => assign(journal, journal_times, recorder, recorder_times),
-            }
-        }
-    }
+    check_size(Log::Journal, journal.count, journal_times)?;
+    check_size(Log::Recorder, recorder.count, recorder_times)?;
+    check_times(Log::Journal, journal_times)?;
+    check_times(Log::Recorder, recorder_times)?;
+    let sent = &journal.frames[..journal.count];
+    let seen = &recorder.frames[..recorder.count];
+    Ok(assign(sent, journal_times, seen, recorder_times))
 }

@@ -1,18 +1,17 @@
-use mathlib.Core.Path.{refl}
-use native.Mathlib.Omega.{arith}
+use Rattle.std.proofs.Common.{refl}
 use Rattle.matcher.specs.Match.{first_fall}
 use Rattle.matcher.proofs.Steps.{fall_found, fall_again, fall_end}
 use Rattle.matcher.proofs.first_fall.Goals as goal
 
-pub loop-line-init : goal.loop-line-init
+pub loop-i-init : goal.loop-i-init
 unfolding first_fall
-loop-line-init c = (omega arith, refl)
+loop-i-init c = refl
 
 pub returns-then-t-last : goal.returns-then-t-last
-returns-then-t-last c = let loop = c.loop-line in fall_found _ loop.line loop.last c.loop-line-test.true loop.invariant.1 c.if-t-last.true
+returns-then-t-last c = fall_found _ _ _ c.loop-i-test.true c.loop-i.invariant c.if-t-last.true
 
-pub loop-line-preserved : goal.loop-line-preserved
-loop-line-preserved c = let loop = c.loop-line in (omega arith, fall_again _ loop.line loop.last c.loop-line-test.true loop.invariant.1 c.if-t-last.false)
+pub loop-i-preserved : goal.loop-i-preserved
+loop-i-preserved c = fall_again _ _ _ c.loop-i-test.true c.loop-i.invariant c.if-t-last.false
 
 pub returns : goal.returns
-returns c = let loop = c.loop-line in fall_end _ loop.line loop.last c.loop-line-test.false loop.invariant.1
+returns c = fall_end _ _ _ c.loop-i-test.false c.loop-i.invariant
