@@ -7,7 +7,7 @@ ghost use Rattle.policy.specs.Policy.{fingerprint_confirmed, identified_car, is_
 use state::{Access, Buses, Car, Identity, Policy};
 
 // CanReadWriteApproval: the approval compared with the identified car.
-#[derive(Clone, Copy)]
+#[derive(Clone, Copy, PartialEq, Eq)]
 pub enum Approval {
     NotApproved,
     AwaitingCar,
@@ -15,169 +15,123 @@ pub enum Approval {
     OtherCar,
 }
 
+#[tactic(auto, unfolding(crate::specs::Policy::fingerprint_confirmed))]
 pub fn is_car_fingerprint_confirmed(i: Identity) -> bool
     ensures { result ≡ fingerprint_confirmed i }
 {
-    if i.confirmed {
-        return i.car.known;
-    }
-    false
+    i.confirmed && i.car.known
 }
 
+#[tactic(auto, unfolding(crate::specs::Policy::identified_car))]
 pub fn identified_car(i: Identity) -> Car
     ensures { result ≡ identified_car i }
 {
     if is_car_fingerprint_confirmed(i) {
-        let car = i.car;
-        return car;
+        i.car
+    } else {
+        state::replies::no_car()
     }
-    state::replies::no_car()
 }
 
 // Whether this car is the one identified now.
+#[tactic(auto, unfolding(crate::specs::Policy::is_identified))]
 pub fn is_identified(i: Identity, digest: [u8; 32]) -> bool
     ensures { result ≡ is_identified i digest }
 {
-    if is_car_fingerprint_confirmed(i) {
-        let car = i.car.digest;
-        return arrays::same_bytes(&car, &digest);
-    }
-    false
+    is_car_fingerprint_confirmed(i) && arrays::same_bytes(&i.car.digest, &digest)
 }
 
+#[tactic(auto, unfolding(crate::specs::Policy::dev_lock))]
 pub fn has_can_dev_write_lock(a: Access) -> bool
     ensures { result ≡ dev_lock a }
 {
     !a.production
 }
 
+#[tactic(auto, unfolding(crate::specs::Policy::dev_unlocked))]
 pub fn is_can_dev_write_unlocked(a: Access) -> bool
     ensures { result ≡ dev_unlocked a }
 {
-    if a.production {
-        return false;
-    }
-    a.unlocked
+    !a.production && a.unlocked
 }
 
+#[tactic(auto, unfolding(crate::specs::Policy::approved_car))]
 fn approved_car(i: Identity, a: Access) -> bool
     ensures { result ≡ approved_car i a }
 {
-    if a.approval.known {
-        let approved = a.approval.digest;
-        let car = i.car.digest;
-        return arrays::same_bytes(&approved, &car);
-    }
-    false
+    a.approval.known && arrays::same_bytes(&a.approval.digest, &i.car.digest)
 }
 
+#[tactic(auto, unfolding(crate::specs::Policy::allows_read_write))]
 pub fn allows_read_write(p: Policy) -> bool
     ensures { result ≡ allows_read_write p }
 {
-    let identity = p.identity;
-    let access = p.access;
-    if is_car_fingerprint_confirmed(identity) {
-        if approved_car(identity, access) {
-            if access.production {
-                return true;
-            }
-            return access.unlocked;
-        }
-    }
-    false
+    is_car_fingerprint_confirmed(p.identity)
+        && approved_car(p.identity, p.access)
+        && (p.access.production || p.access.unlocked)
 }
 
+#[tactic(auto, unfolding(crate::specs::Policy::is_read_only))]
 pub fn is_can_read_only(p: Policy) -> bool
     ensures { result ≡ is_read_only p }
 {
-    let buses = p.buses;
-    if buses.vehicle_read_only {
-        return true;
-    }
-    if buses.logging {
-        return true;
-    }
-    if p.identity.confirmed {
-        return !allows_read_write(p);
-    }
-    true
+    p.buses.vehicle_read_only || p.buses.logging || !p.identity.confirmed || !allows_read_write(p)
 }
 
+#[tactic(auto, unfolding(crate::specs::Policy::is_fd_bus))]
 pub fn is_can_fd_bus(b: Buses, bus: u8) -> bool
     ensures { result ≡ is_fd_bus b bus }
 {
-    let fd = b.fd;
-    if bus < 4 {
-        let i = bus as usize;
-        return fd[i];
-    }
-    false
+    bus < 4 && b.fd[usize::from(bus)]
 }
 
+#[tactic(auto, unfolding(crate::specs::Policy::is_bus_read_only))]
 pub fn is_can_bus_read_only(p: Policy, bus: u8) -> bool
     ensures { result ≡ is_bus_read_only p bus }
 {
-    if is_can_read_only(p) {
-        return true;
-    }
-    let buses = p.buses;
-    is_can_fd_bus(buses, bus)
+    is_can_read_only(p) || is_can_fd_bus(p.buses, bus)
 }
 
+#[tactic(auto, unfolding(crate::specs::Policy::approval_of, crate::specs::Policy::approved_car))]
 pub fn can_read_write_approval(i: Identity, a: Access) -> Approval
     ensures { result ≡ approval_of i a }
 {
-    if a.approval.known {
-        if is_car_fingerprint_confirmed(i) {
-            let approved = a.approval.digest;
-            let car = i.car.digest;
-            if arrays::same_bytes(&approved, &car) {
-                return Approval::Approved;
-            }
-            return Approval::OtherCar;
-        }
-        return Approval::AwaitingCar;
+    if !a.approval.known {
+        Approval::NotApproved
+    } else if !is_car_fingerprint_confirmed(i) {
+        Approval::AwaitingCar
+    } else if approved_car(i, a) {
+        Approval::Approved
+    } else {
+        Approval::OtherCar
     }
-    Approval::NotApproved
 }
 
 fn approval_reason(a: Access, approval: Approval) -> u8
     ensures { result ≡ approval_reason a approval }
 {
     match approval {
-        Approval::NotApproved => 5,
-        Approval::AwaitingCar => 5,
-        Approval::Approved => {
-            if a.production {
-                return 7;
-            }
-            if a.unlocked {
-                return 7;
-            }
-            6
-        }
+        Approval::NotApproved | Approval::AwaitingCar => 5,
+        Approval::Approved if a.production || a.unlocked => 7,
+        Approval::Approved => 6,
         Approval::OtherCar => 4,
     }
 }
 
 // 1 to 7 in the source's order, 0 while the gate is read-write.
+#[tactic(auto, unfolding(crate::specs::Policy::reason))]
 pub fn can_read_only_reason(p: Policy) -> u8
     ensures { result ≡ reason p }
 {
-    if is_can_read_only(p) {
-        if p.buses.logging {
-            return 1;
-        }
-        let identity = p.identity;
-        let access = p.access;
-        if identity.confirmed {
-            if is_car_fingerprint_confirmed(identity) {
-                let approval = can_read_write_approval(identity, access);
-                return approval_reason(access, approval);
-            }
-            return 3;
-        }
-        return 2;
+    if !is_can_read_only(p) {
+        0
+    } else if p.buses.logging {
+        1
+    } else if !p.identity.confirmed {
+        2
+    } else if !is_car_fingerprint_confirmed(p.identity) {
+        3
+    } else {
+        approval_reason(p.access, can_read_write_approval(p.identity, p.access))
     }
-    0
 }

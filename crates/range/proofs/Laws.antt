@@ -1,15 +1,14 @@
--- What `within` says, and the range of the waiting frames; the steps of a loop that tests every element: what is left to test is what stands from i on; and the cars
--- in use, by their places.
+-- What `within` says, and the range of the waiting frames; a test of every element; and the cars in use, by their places.
 use mathlib.Core.Path.{◌≡◌, refl, sym, ap, ◌∙◌}
-use mathlib.Core.Bool.{Bool, true, false, cond, true≢false, and-eq-true_iff}
+use mathlib.Core.Bool.{Bool, true, false, cond, ◌&&◌, true≢false, and-eq-true_iff}
 use mathlib.Core.List.{List, [], ◌∷◌}
-use Prim.Native.Nat.{ℕ, zero, suc, ◌+◌, ◌≤◌, ◌<◌}
-use native.Mathlib.Numerals.{add-one}
+use Prim.Native.Nat.{ℕ, zero, suc, ◌≤◌, ◌<◌}
 use native.Mathlib.Omega.{arith}
 use lib.Dec.{ltb}
 use borrow.Author.Tests.{ltb-false}
-use lib.ListN.{length, take, drop, get_or, drop_of_length-le}
-use lib.Seq.{drop-cons, take-nil}
+use lib.ListN.{length, take}
+use lib.Seq.{take-nil}
+use Rattle.std.specs.List.{list_all}
 use Rattle.phones.specs.Ids.{all_of}
 use Rattle.saved_record.specs.declared.CarPhones.{CarPhones}
 use Rattle.saved_record.specs.declared.Store.{Store}
@@ -34,20 +33,15 @@ few_wait v h =
     let b = within_is 0 16 v.queue.count p.1.0 in
     omega arith
 
-module _ {A : Type 0} (f : A → Bool) (xs : List A) (d : A) (i : ℕ) (h : i < length xs) (inv : all_of f xs ≡ all_of f (drop i xs)) where
-  step : all_of f xs ≡ cond (f (get_or xs i d)) (all_of f (drop (i + 1) xs)) false
-  unfolding all_of
-  step = inv ∙ rw (add-one, drop-cons xs i d h)
+and_cond : (a b : Bool) → (a && b) ≡ cond a b false
+and_cond true b = refl
+and_cond false b = refl
 
-  pub all_again : f (get_or xs i d) ≡ true → all_of f xs ≡ all_of f (drop (i + 1) xs)
-  all_again e = step ∙ rw e
-
-  pub all_failed : f (get_or xs i d) ≡ false → false ≡ all_of f xs
-  all_failed e = sym (step ∙ rw e)
-
-pub all_end : {A : Type 0} (f : A → Bool) (xs : List A) (i : ℕ) → length xs ≤ i → all_of f xs ≡ all_of f (drop i xs) → true ≡ all_of f xs
+-- a test of every element is that of std's list
+pub every : {A : Type 0} (f : A → Bool) (xs : List A) → list_all f xs ≡ all_of f xs
 unfolding all_of
-all_end f xs i h inv = sym (inv ∙ rw (drop_of_length-le xs h))
+every f [] = refl
+every f (x ∷ xs) = ap (λ (b : Bool). f x && b) (every f xs) ∙ and_cond (f x) (all_of f xs)
 
 -- every car in use, by the four places
 abbrev at_places : ℕ → CarPhones → CarPhones → CarPhones → CarPhones → Bool

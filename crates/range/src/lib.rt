@@ -10,149 +10,86 @@ ghost use Rattle.range.specs.Range.{settings_fit, method_fits, methods_in, metho
 use saved_record::{CarPhones, Store};
 use state::{Core, Gate, Method, Methods, Session, Settings, Window};
 
+#[tactic(auto, unfolding(crate::specs::Range::within))]
 pub fn within(low: u64, high: u64, x: u64) -> bool
     ensures { result ≡ Range.within low high x }
 {
-    if x < low {
-        return false;
-    }
-    if high < x {
-        return false;
-    }
-    true
+    (low..=high).contains(&x)
 }
 
+#[tactic(auto, unfolding(crate::specs::Range::settings_fit))]
 pub fn settings_fit(s: Settings) -> bool
     ensures { result ≡ settings_fit s }
 {
-    if within(1, 9, s.digits as u64) {
-        if within(1, 20, s.tries as u64) {
-            if within(1, 86_400_000, s.session) {
-                if within(0, 86_400_000, s.cooldown) {
-                    if within(0, 86_400_000, s.keep) {
-                        return within(0, 32, s.bonded as u64);
-                    }
-                }
-            }
-        }
-    }
-    false
+    within(1, 9, s.digits as u64)
+        && within(1, 20, s.tries as u64)
+        && within(1, 86_400_000, s.session)
+        && within(0, 86_400_000, s.cooldown)
+        && within(0, 86_400_000, s.keep)
+        && within(0, 32, s.bonded as u64)
 }
 
 // Every byte from 33 to 126.
+#[tactic(auto, unfolding(crate::specs::Range::printable))]
 fn printable(s: &[u8]) -> bool
     ensures { result ≡ Range.printable s.now }
 {
-    let mut i = 0;
-    while i < s.len() {
-        let b = s[i];
-        if b < 33 {
-            return false;
-        }
-        if 126 < b {
-            return false;
-        }
-        i += 1;
-    }
-    true
+    s.iter().all(|b| within(33, 126, u64::from(*b)))
 }
 
-fn method_fits(m: Method) -> bool
-    ensures { result ≡ method_fits m }
+#[tactic(auto, unfolding(crate::specs::Range::method_fits))]
+fn method_fits(m: &Method) -> bool
+    ensures { result ≡ method_fits m.now }
 {
-    let id = m.id;
-    let n = id.len;
-    if n < 1 {
-        return false;
-    }
-    if 32 < n {
-        return false;
-    }
-    let bytes = id.bytes;
-    printable(&bytes[..n])
+    within(1, 32, m.id.len as u64) && printable(m.id.used())
 }
 
+#[tactic(auto, unfolding(crate::specs::Range::methods_in, crate::specs::Range::all_fit))]
 pub fn methods_in(list: [Method; 8], n: usize) -> bool
     ensures { result ≡ methods_in list n }
 {
-    if 8 < n {
-        return false;
-    }
-    let mut i = 0;
-    while i < n {
-        let method = list[i];
-        if method_fits(method) {
-            i += 1;
-        } else {
-            return false;
-        }
-    }
-    true
+    n <= 8 && list[..n].iter().all(method_fits)
 }
 
+#[tactic(auto, unfolding(crate::specs::Range::methods_fit))]
 pub fn methods_fit(m: Methods) -> bool
     ensures { result ≡ methods_fit m }
 {
-    let list = m.list;
-    methods_in(list, m.count)
+    methods_in(m.list, m.count)
 }
 
+#[tactic(auto, unfolding(crate::specs::Range::session_fits))]
 fn session_fits(m: Methods, s: Session) -> bool
     ensures { result ≡ session_fits m s }
 {
-    if s.present {
-        let phone = s.phone;
-        if phones::id_in_range(phone) {
-            return s.method < m.count;
-        }
-        return false;
-    }
-    true
+    !s.present || (phones::id_in_range(s.phone) && s.method < m.count)
 }
 
+#[tactic(auto, unfolding(crate::specs::Range::window_fits))]
 fn window_fits(w: Window) -> bool
     ensures { result ≡ window_fits w }
 {
-    if w.present {
-        return within(1, 4, w.count as u64);
-    }
-    true
+    !w.present || within(1, 4, w.count as u64)
 }
 
+#[tactic(auto, unfolding(crate::specs::Range::core_fits, crate::specs::Range::tries_fit))]
 fn core_fits(c: Core) -> bool
     ensures { result ≡ core_fits c }
 {
-    let settings = c.settings;
-    if settings_fit(settings) {
-        let methods = c.methods;
-        if methods_fit(methods) {
-            let peer = c.peer;
-            if phones::id_in_range(peer) {
-                let session = c.validation.session;
-                if session_fits(methods, session) {
-                    if within(1, settings.tries as u64, c.validation.tries as u64) {
-                        let window = c.probe.window;
-                        return window_fits(window);
-                    }
-                }
-            }
-        }
-    }
-    false
+    settings_fit(c.settings)
+        && methods_fit(c.methods)
+        && phones::id_in_range(c.peer)
+        && session_fits(c.methods, c.validation.session)
+        && within(1, c.settings.tries as u64, c.validation.tries as u64)
+        && window_fits(c.probe.window)
 }
 
 // A place that is not in use, or a car with 1 to 32 phones.
+#[tactic(auto, unfolding(state::specs::View::car_in_range))]
 fn place_fits(used: bool, c: CarPhones) -> bool
     ensures { result ≡ cond used (car_in_range c) true }
 {
-    if used {
-        let list = c.phones;
-        if phones::count(list) == 0 {
-            return false;
-        }
-        return phones::list_in_range(list);
-    }
-    true
+    !used || (phones::count(c.phones) != 0 && phones::list_in_range(c.phones))
 }
 
 // No digest stands at two of the places in use. One function for this test and that of `saved_record::car_twice` would be called, and not
@@ -220,40 +157,24 @@ fn store_in_range(s: Store) -> bool
 fn save_fits(present: bool, len: usize, at: usize) -> bool
     ensures { result ≡ cond present (Range.within 0 4358 len && Range.within 0 len at) true }
 {
-    if present {
-        if within(0, 4358, len as u64) {
-            return within(0, len as u64, at as u64);
-        }
-        return false;
-    }
-    true
+    !present || (within(0, 4358, len as u64) && within(0, len as u64, at as u64))
 }
 
 // How many frames wait, and the bus last served.
 fn queue_fits(count: usize, last: u8) -> bool
     ensures { result ≡ (Range.within 0 16 count && Range.within 0 3 last) }
 {
-    if within(0, 16, count as u64) {
-        return within(0, 3, last as u64);
-    }
-    false
+    within(0, 16, count as u64) && within(0, 3, u64::from(last))
 }
 
 // Whether a lent gate is served; otherwise every call answers 25.
+#[tactic(auto, unfolding(state::specs::View::view, crate::specs::Range::save_fits, crate::specs::Range::queue_fits, crate::specs::Range::in_range))]
 pub fn in_range(g: Gate) -> bool
     ensures { result ≡ in_range (view g) }
 {
-    let core = g.core;
-    if core_fits(core) {
-        let paired = g.phones.paired;
-        if phones::list_in_range(paired) {
-            let store = g.phones.store;
-            if store_in_range(store) {
-                if save_fits(g.save.present, g.save.stored.len, g.save.at) {
-                    return queue_fits(g.queue.count, g.queue.last);
-                }
-            }
-        }
-    }
-    false
+    core_fits(g.core)
+        && phones::list_in_range(g.phones.paired)
+        && store_in_range(g.phones.store)
+        && save_fits(g.save.present, g.save.stored.len, g.save.at)
+        && queue_fits(g.queue.count, g.queue.last)
 }

@@ -11,14 +11,14 @@ use phones::{PhoneList, ShortId};
 use saved_record::{SavedRecord, Store};
 
 // ValidationKind.
-#[derive(Clone, Copy)]
+#[derive(Clone, Copy, PartialEq, Eq)]
 pub enum Kind {
     CodeEntry,
     InCarAction,
 }
 
 // PhoneValidationStatus.
-#[derive(Clone, Copy)]
+#[derive(Clone, Copy, PartialEq, Eq)]
 pub enum Status {
     InProgress,
     Succeeded,
@@ -183,7 +183,7 @@ pub struct Gate {
 }
 
 // PhoneValidationSession: what a session shows. `length`, `tries` are 0 unless its method is CodeEntry.
-#[derive(Clone, Copy)]
+#[derive(Clone, Copy, PartialEq, Eq)]
 pub struct SessionReply {
     pub method: usize,
     pub kind: Kind,
@@ -195,7 +195,7 @@ pub struct SessionReply {
 }
 
 // What a call answers; `number` of specs/Answers.antt gives document 01's number of each refusal.
-#[derive(Clone, Copy)]
+#[derive(Clone, Copy, PartialEq, Eq)]
 pub enum Answer {
     Done,
     Yes,
@@ -299,7 +299,7 @@ pub struct Raised {
 }
 
 // Where digits come from: there are none, the gate's, or those that this call drew.
-#[derive(Clone, Copy)]
+#[derive(Clone, Copy, PartialEq, Eq)]
 pub enum Mark {
     Blank,
     Kept,

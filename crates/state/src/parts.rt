@@ -8,47 +8,35 @@ use phones::ShortId;
 pub fn with_methods(core: Core, methods: Methods) -> Core
     ensures { result ≡ with_methods core methods }
 {
-    let mut c = core;
-    c.methods = methods;
-    c
+    Core { methods, ..core }
 }
 
 pub fn with_policy(core: Core, policy: Policy) -> Core
     ensures { result ≡ with_policy core policy }
 {
-    let mut c = core;
-    c.policy = policy;
-    c
+    Core { policy, ..core }
 }
 
 pub fn with_peer(core: Core, peer: ShortId) -> Core
     ensures { result ≡ with_peer core peer }
 {
-    let mut c = core;
-    c.peer = peer;
-    c
+    Core { peer, ..core }
 }
 
 pub fn with_validation(core: Core, validation: Validation) -> Core
     ensures { result ≡ with_validation core validation }
 {
-    let mut c = core;
-    c.validation = validation;
-    c
+    Core { validation, ..core }
 }
 
 pub fn with_probe(core: Core, probe: Probe) -> Core
     ensures { result ≡ with_probe core probe }
 {
-    let mut c = core;
-    c.probe = probe;
-    c
+    Core { probe, ..core }
 }
 
 pub fn with_window(probe: Probe, window: Window) -> Probe
     ensures { result ≡ with_window probe window }
 {
-    let mut b = probe;
-    b.window = window;
-    b
+    Probe { window, ..probe }
 }

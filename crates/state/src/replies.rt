@@ -11,31 +11,28 @@ use crate::{
 pub fn no_car() -> Car
     ensures { result ≡ no_car }
 {
-    let digest = [0u8; 32];
     Car {
         known: false,
-        digest,
+        digest: [0; 32],
     }
 }
 
 pub fn no_challenge() -> Challenge
     ensures { result ≡ no_challenge }
 {
-    let code = [0u8; 9];
     Challenge {
         running: false,
         session: 0,
         method: 0,
         length: 0,
-        code,
+        code: [0; 9],
     }
 }
 
+#[tactic(auto, unfolding(crate::specs::Replies::nothing_raised))]
 pub fn nothing_raised() -> Raised
     ensures { result ≡ nothing_raised }
 {
-    let car = no_car();
-    let challenge = no_challenge();
     Raised {
         access: false,
         availability: false,
@@ -43,66 +40,73 @@ pub fn nothing_raised() -> Raised
             sent: false,
             value: false,
         },
-        approval: ApprovalSignal { sent: false, car },
+        approval: ApprovalSignal {
+            sent: false,
+            car: no_car(),
+        },
         challenge: ChallengeSignal {
             sent: false,
-            challenge,
+            challenge: no_challenge(),
         },
     }
 }
 
 // notify_phone_access_changed.
+#[tactic(auto, unfolding(crate::specs::Replies::phone_access_changed, crate::specs::Replies::nothing_raised))]
 pub fn phone_access_changed() -> Raised
     ensures { result ≡ phone_access_changed }
 {
-    let mut s = nothing_raised();
-    s.access = true;
-    s.availability = true;
-    s
+    Raised {
+        access: true,
+        availability: true,
+        ..nothing_raised()
+    }
 }
 
 // notify_can_read_only_changed.
+#[tactic(auto, unfolding(crate::specs::Replies::read_only_changed, crate::specs::Replies::nothing_raised))]
 pub fn read_only_changed(value: bool) -> Raised
     ensures { result ≡ read_only_changed value }
 {
-    let mut s = nothing_raised();
-    s.access = true;
-    let readonly = ReadOnlySignal { sent: true, value };
-    s.readonly = readonly;
-    s
+    Raised {
+        access: true,
+        readonly: ReadOnlySignal { sent: true, value },
+        ..nothing_raised()
+    }
 }
 
 // An approval that was given or revoked.
+#[tactic(auto, unfolding(crate::specs::Replies::approval_changed, crate::specs::Replies::read_only_changed))]
 pub fn approval_changed(car: Car, value: bool) -> Raised
     ensures { result ≡ approval_changed car value }
 {
-    let mut s = read_only_changed(value);
-    let approval = ApprovalSignal { sent: true, car };
-    s.approval = approval;
-    s
+    Raised {
+        approval: ApprovalSignal { sent: true, car },
+        ..read_only_changed(value)
+    }
 }
 
 // A challenge that started or ended.
+#[tactic(auto, unfolding(crate::specs::Replies::challenge_changed, crate::specs::Replies::phone_access_changed))]
 pub fn challenge_changed(challenge: Challenge) -> Raised
     ensures { result ≡ challenge_changed challenge }
 {
-    let mut s = phone_access_changed();
-    let signal = ChallengeSignal {
-        sent: true,
-        challenge,
-    };
-    s.challenge = signal;
-    s
+    Raised {
+        challenge: ChallengeSignal {
+            sent: true,
+            challenge,
+        },
+        ..phone_access_changed()
+    }
 }
 
 // S is not sent.
 pub fn no_stored() -> ValidationsSignal
     ensures { result ≡ no_s }
 {
-    let stored = saved_record::no_record();
     ValidationsSignal {
         sent: false,
-        stored,
+        stored: saved_record::no_record(),
     }
 }
 
@@ -110,25 +114,21 @@ pub fn no_stored() -> ValidationsSignal
 pub fn sending(raised: Raised, validations: ValidationsSignal) -> Signals
     ensures { result ≡ Replies.sending raised validations }
 {
-    let readonly = raised.readonly;
-    let approval = raised.approval;
-    let challenge = raised.challenge;
     Signals {
         access: raised.access,
         availability: raised.availability,
-        readonly,
-        approval,
+        readonly: raised.readonly,
+        approval: raised.approval,
         validations,
-        challenge,
+        challenge: raised.challenge,
     }
 }
 
+#[tactic(auto, unfolding(crate::specs::Replies::no_signals, crate::specs::Replies::nothing_raised))]
 pub fn no_signals() -> Signals
     ensures { result ≡ no_signals }
 {
-    let raised = nothing_raised();
-    let validations = no_stored();
-    sending(raised, validations)
+    sending(nothing_raised(), no_stored())
 }
 
 pub fn yes_no(b: bool) -> Answer
@@ -138,21 +138,22 @@ pub fn yes_no(b: bool) -> Answer
 }
 
 // Nothing changes, and nothing is raised.
+#[tactic(auto, unfolding(crate::specs::Replies::leave, crate::specs::Replies::reply))]
 pub fn leave(core: Core, answer: Answer) -> Said
     ensures { result ≡ Replies.leave core answer }
 {
-    let raised = nothing_raised();
-    reply(core, answer, raised)
+    reply(core, answer, nothing_raised())
 }
 
+#[tactic(auto, unfolding(crate::specs::Replies::quiet, crate::specs::Replies::leave))]
 pub fn quiet(core: Core, answer: Answer) -> Said
     ensures { result ≡ Replies.quiet core answer }
 {
-    let raised = nothing_raised();
-    reply(core, answer, raised)
+    leave(core, answer)
 }
 
 // The digits stay, if there are any.
+#[tactic(auto, unfolding(crate::specs::Replies::reply))]
 pub fn reply(core: Core, answer: Answer, raised: Raised) -> Said
     ensures { result ≡ Replies.reply core answer raised }
 {
@@ -166,14 +167,15 @@ pub fn reply(core: Core, answer: Answer, raised: Raised) -> Said
 }
 
 // An answer with the phone access signals.
+#[tactic(auto, unfolding(crate::specs::Replies::notified, crate::specs::Replies::reply))]
 pub fn notified(core: Core, answer: Answer) -> Said
     ensures { result ≡ Replies.notified core answer }
 {
-    let raised = phone_access_changed();
-    reply(core, answer, raised)
+    reply(core, answer, phone_access_changed())
 }
 
 // The running session ended: its digits go.
+#[tactic(auto, unfolding(crate::specs::Replies::finish))]
 pub fn finish(core: Core, answer: Answer, raised: Raised) -> Said
     ensures { result ≡ Replies.finish core answer raised }
 {
@@ -200,11 +202,15 @@ pub fn code_at(held: [u8; 9], drawn: [u8; 9], mark: Mark) -> [u8; 9]
 pub fn showing(digits: [u8; 9], raised: Raised) -> Raised
     ensures { result ≡ Replies.showing digits raised }
 {
-    let mut signal = raised.challenge;
-    let mut challenge = signal.challenge;
-    challenge.code = digits;
-    signal.challenge = challenge;
-    let mut r = raised;
-    r.challenge = signal;
-    r
+    let ChallengeSignal { sent, challenge } = raised.challenge;
+    Raised {
+        challenge: ChallengeSignal {
+            sent,
+            challenge: Challenge {
+                code: digits,
+                ..challenge
+            },
+        },
+        ..raised
+    }
 }

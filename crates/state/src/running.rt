@@ -8,77 +8,59 @@ use phones::ShortId;
 pub fn is_code(k: Kind) -> bool
     ensures { result ≡ is_code k }
 {
-    match k {
-        Kind::CodeEntry => true,
-        Kind::InCarAction => false,
-    }
+    matches!(k, Kind::CodeEntry)
 }
 
 pub fn is_running(s: Status) -> bool
     ensures { result ≡ is_running s }
 {
-    match s {
-        Status::InProgress => true,
-        Status::Succeeded => false,
-        Status::Failed => false,
-        Status::Cancelled => false,
-        Status::TimedOut => false,
-    }
+    matches!(s, Status::InProgress)
 }
 
 // The method at a place; past the last place, one without an id.
+#[tactic(auto, unfolding(crate::specs::Running::method_at))]
 pub fn method_at(m: Methods, i: usize) -> Method
     ensures { result ≡ method_at m i }
 {
-    let list = m.list;
-    if i < 8 {
-        return list[i];
-    }
-    no_method()
+    if i < 8 { m.list[i] } else { no_method() }
 }
 
 pub fn no_method() -> Method
     ensures { result ≡ no_method }
 {
-    let bytes = [0u8; 32];
-    let id = ShortId { bytes, len: 0 };
     Method {
-        id,
+        id: ShortId {
+            bytes: [0; 32],
+            len: 0,
+        },
         kind: Kind::InCarAction,
         needs_approval: false,
     }
 }
 
 // The same method with zeros past the length of its id.
+#[tactic(auto, unfolding(crate::specs::Running::clean_method))]
 pub fn clean_method(m: Method) -> Method
     ensures { result ≡ clean_method m }
 {
-    let mut kept = m;
-    let old = m.id;
-    let id = phones::clean(old);
-    kept.id = id;
-    kept
+    Method {
+        id: phones::clean(m.id),
+        ..m
+    }
 }
 
 // A session is there and InProgress.
+#[tactic(auto, unfolding(crate::specs::Running::in_progress))]
 pub fn in_progress(s: Session) -> bool
     ensures { result ≡ in_progress s }
 {
-    if s.present {
-        let status = s.status;
-        return is_running(status);
-    }
-    false
+    s.present && is_running(s.status)
 }
 
 // A CodeEntry session is InProgress.
+#[tactic(auto, unfolding(crate::specs::Running::code_in_progress))]
 pub fn code_in_progress(m: Methods, s: Session) -> bool
     ensures { result ≡ code_in_progress m s }
 {
-    if in_progress(s) {
-        let method = method_at(m, s.method);
-        let kind = method.kind;
-        return is_code(kind);
-    }
-    false
+    in_progress(s) && is_code(method_at(m, s.method).kind)
 }
