@@ -1,6 +1,5 @@
 -- The car digest of document 01, "Lists and the saved record", and of `car_digest` in can_access.rs.
-use Rattle.std.specs.Prelude.{true, false, cond, List, [], ◌∷◌, ◌++◌, ℕ, ◌/◌, ◌%◌, ◌^◌, ltb, length, replicate}
-use Rattle.car_digest.specs.declared.Digested.{Digested}
+use Rattle.std.specs.Prelude.{cond, Option, Some, None, List, [], ◌∷◌, ◌++◌, ℕ, ◌/◌, ◌%◌, ◌^◌, ltb, length}
 use Rattle.sha256.specs.Sha256.{sha256}
 
 -- the 26 bytes opencar/can-rw-approval/v1: a line for opencar/, one for can-rw-, one for approval/ and one for v1
@@ -19,9 +18,6 @@ little4 n = n % 256 ∷ n / 2 ^ 8 % 256 ∷ n / 2 ^ 16 % 256 ∷ n / 2 ^ 24 % 25
 unfoldable pub car_message : ℕ → List ℕ → List ℕ
 car_message platform fingerprint = domain ++ little4 platform ++ fingerprint
 
--- the digest of that message; a fingerprint above 4,096 bytes has none, and 32 zeros stand for it
-unfoldable pub car_digest : ℕ → List ℕ → Digested
-car_digest platform fingerprint =
-    cond (ltb 4096 (length fingerprint))
-    (record { ok = false; digest = replicate 32 0 })
-    (record { ok = true; digest = sha256 (car_message platform fingerprint) })
+-- the digest of that message; a fingerprint above 4,096 bytes has none
+unfoldable pub car_digest : ℕ → List ℕ → Option (List ℕ)
+car_digest platform fingerprint = cond (ltb 4096 (length fingerprint)) None (Some (sha256 (car_message platform fingerprint)))

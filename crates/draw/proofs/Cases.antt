@@ -1,15 +1,11 @@
 -- P1 to P4 of document 01: draws of four digits.
-use mathlib.Core.Path.{◌≡◌, refl}
-use mathlib.Core.Bool.{true}
-use mathlib.Core.List.{[], ◌∷◌}
-use Prim.Native.Nat.{ℕ}
+use Rattle.std.proofs.Common.{◌≡◌, refl, Option, Some, None, List, [], ◌∷◌, ℕ}
 use Rattle.arrays.specs.Arrays.{padded}
-use Rattle.draw.specs.declared.Drawn.{Drawn}
-use Rattle.draw.specs.Draw.{group, first_below, digits, draw_limit, no_code_drawn, drawn}
+use Rattle.draw.specs.Draw.{group, first_below, digits, draw_limit, drawn}
 
 -- the digits w x y z in ASCII, and zeros past them
-abbrev four : ℕ → ℕ → ℕ → ℕ → Drawn
-four w x y z = record { ok = true; code = w ∷ x ∷ y ∷ z ∷ 0 ∷ 0 ∷ 0 ∷ 0 ∷ 0 ∷ [] }
+abbrev four : ℕ → ℕ → ℕ → ℕ → Option (List ℕ)
+four w x y z = Some (w ∷ x ∷ y ∷ z ∷ 0 ∷ 0 ∷ 0 ∷ 0 ∷ 0 ∷ [])
 
 -- 1234
 pub p1 : drawn (0xD2 ∷ 0x04 ∷ 0x00 ∷ 0x00 ∷ []) 4 ≡ four 49 50 51 52
@@ -27,6 +23,6 @@ unfolding drawn first_below draw_limit group digits padded
 p3 = refl
 
 -- the limit itself gives no code
-pub p4 : drawn (0x80 ∷ 0xE3 ∷ 0xFF ∷ 0xFF ∷ []) 4 ≡ no_code_drawn
+pub p4 : drawn (0x80 ∷ 0xE3 ∷ 0xFF ∷ 0xFF ∷ []) 4 ≡ None
 unfolding drawn first_below draw_limit group digits padded
 p4 = refl

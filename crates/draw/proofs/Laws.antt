@@ -1,59 +1,53 @@
 -- Laws of the definitions of specs/, as the loops need them.
-use mathlib.Core.Path.{◌≡◌, refl}
-use mathlib.Core.Bool.{cond}
-use mathlib.Core.List.{List, [], ◌∷◌, ◌++◌, append_assoc}
-use Prim.Native.Nat.{ℕ, zero, suc, ◌+◌, ◌-◌, ◌*◌, ◌/◌, ◌%◌, ◌^◌, ◌≤◌, ◌<◌}
-use native.Mathlib.Nat.{pow-suc, one-le-pow, pow-le-pow_right}
-use native.Mathlib.Numerals.{add-one, add-two, add-three, add-four}
-use native.Mathlib.Omega.{arith}
-use borrow.Author.Tests.{lt-ltb, le-ltb}
-use lib.Dec.{ltb}
-use lib.ListN.{length, drop, set, replicate, length-append, length-drop, length-replicate, length-set, replicate-append-replicate}
-use lib.Seq.{drop_at, drop-cons, drop-set-lt, get_or-set_same}
+use Rattle.std.proofs.Common.{◌≡◌, refl, Option, Some, None, cond, List, [], ◌∷◌, ◌++◌, append_assoc, ℕ, zero, suc, ◌+◌, ◌-◌, ◌/◌, ◌%◌, ◌^◌, ◌≤◌, ◌<◌, add-one, arith, ltb, lt-ltb, le-ltb, length, drop, set, get_or, replicate, length-append, length-set, drop-cons, get_or-set_same}
+use Rattle.std.proofs.Math.Nat.{one-le-pow, pow-le-pow_right}
+use Rattle.std.proofs.lemmas.List.{drop_at, drop-set-lt, replicate-append-replicate}
+use Rattle.std.proofs.Math.ListN.{length-replicate}
+use Rattle.std.specs.Int.{w32, from_le_bytes}
+use Rattle.std.specs.Simd.{first_chunks}
 use Rattle.arrays.specs.Arrays.{padded}
-use Rattle.draw.specs.declared.Found.TheVariants.{Value, Spent}
-use Rattle.draw.specs.Draw.{group_at, first_below, digits}
+use Rattle.draw.specs.Draw.{group, first_below, digits}
+
+-- ---- groups
+
+-- the first number below l of groups of four bytes
+abbrev pub among : ℕ → List (List ℕ) → Option ℕ
+among l [] = None
+among l (g ∷ gs) = cond (ltb (from_le_bytes w32 g) l) (Some (from_le_bytes w32 g)) (among l gs)
+
+group_value : (a b c d : ℕ) → from_le_bytes w32 (a ∷ b ∷ c ∷ d ∷ []) ≡ group a b c d
+unfolding group
+group_value a b c d = omega arith
+
+-- a slice's whole groups are those of the definition
+pub among_chunks : (l n : ℕ) (s : List ℕ) → n ≡ length s / 4 → among l (first_chunks 4 n s) ≡ first_below l s
+unfolding first_below
+among_chunks l zero [] e = refl
+among_chunks l zero (a ∷ []) e = refl
+among_chunks l zero (a ∷ b ∷ []) e = refl
+among_chunks l zero (a ∷ b ∷ c ∷ []) e = refl
+among_chunks l zero (a ∷ b ∷ c ∷ d ∷ r) e = absurd (omega arith)
+among_chunks l (suc n) [] e = absurd (omega arith)
+among_chunks l (suc n) (a ∷ []) e = absurd (omega arith)
+among_chunks l (suc n) (a ∷ b ∷ []) e = absurd (omega arith)
+among_chunks l (suc n) (a ∷ b ∷ c ∷ []) e = absurd (omega arith)
+among_chunks l (suc n) (a ∷ b ∷ c ∷ d ∷ r) e = rw (group_value a b c d, among_chunks l n r (omega arith))
+
+-- the group at i is below l, or it is passed over
+module _ (l v : ℕ) (gs : List (List ℕ)) (i : ℕ) (inside : i < length gs) (read : v ≡ from_le_bytes w32 (get_or gs i [])) where
+  pub among_here : v < l → among l (drop i gs) ≡ Some v
+  among_here h = rw (drop-cons gs i [] inside, ← read, lt-ltb v l h)
+
+  pub among_next : l ≤ v → among l (drop i gs) ≡ among l (drop (i + 1) gs)
+  among_next h = rw (add-one, drop-cons gs i [] inside, ← read, le-ltb v l h)
 
 -- ---- powers of ten
-
-pub ten_suc : (n : ℕ) → 10 ^ (n + 1) ≡ 10 ^ n * 10
-ten_suc n = rw (add-one, pow-suc)
 
 pub ten_small : (n : ℕ) → n ≤ 9 → 10 ^ n ≤ 1000000000
 ten_small n h = let q : 10 ^ n ≤ 10 ^ 9 = pow-le-pow_right (omega arith) h in q
 
 pub ten_pos : (n : ℕ) → 0 < 10 ^ n
 ten_pos n = one-le-pow n 10 (omega arith)
-
--- ---- groups
-
-group_step : (l : ℕ) (s : List ℕ) (i : ℕ) → i + 3 < length s
-    → first_below l (drop i s) ≡ cond (ltb (group_at s i) l) (Value (group_at s i)) (first_below l (drop (i + 4) s))
-unfolding first_below
-group_step l s i h =
-    let a : i < length s = omega arith in
-    let b : suc i < length s = omega arith in
-    let c : suc (suc i) < length s = omega arith in
-    let d : suc (suc (suc i)) < length s = omega arith in
-    rw (add-one, add-two, add-three, add-four, drop-cons s i 0 a, drop-cons s (suc i) 0 b, drop-cons s (suc (suc i)) 0 c, drop-cons s (suc (suc (suc i))) 0 d)
-
-group_few : (l : ℕ) (xs : List ℕ) → length xs ≤ 3 → first_below l xs ≡ Spent
-unfolding first_below
-group_few l [] h = refl
-group_few l (a ∷ []) h = refl
-group_few l (a ∷ b ∷ []) h = refl
-group_few l (a ∷ b ∷ c ∷ []) h = refl
-group_few l (a ∷ b ∷ c ∷ d ∷ r) h = absurd (omega arith)
-
-module _ (l : ℕ) (s : List ℕ) (i : ℕ) (inv : first_below l s ≡ first_below l (drop i s)) where
-  pub group_here : i + 3 < length s → group_at s i < l → Value (group_at s i) ≡ first_below l s
-  group_here h p = rw (inv, group_step l s i h, lt-ltb _ _ p)
-
-  pub group_again : i + 3 < length s → l ≤ group_at s i → first_below l s ≡ first_below l (drop (i + 4) s)
-  group_again h p = rw (inv, group_step l s i h, le-ltb _ _ p)
-
-  pub group_end : length s - i ≤ 3 → Spent ≡ first_below l s
-  group_end h = rw (inv, group_few l (drop i s) (rw length-drop h))
 
 -- ---- digits
 

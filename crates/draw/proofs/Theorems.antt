@@ -1,22 +1,17 @@
 -- What the definition of specs/ means, for every code length n up to 9: the limit, the codes and their number of ways, the
 -- form of a code, and when there is one.
-use mathlib.Core.Path.{◌≡◌, refl}
-use mathlib.Core.Bool.{Bool, true, false, cond, false≢true, true≢false}
-use mathlib.Core.List.{List, [], ◌∷◌, ◌++◌}
-use mathlib.Core.Logic.{◌↔◌, ⊎_elim}
-use Prim.Native.Nat.{ℕ, zero, suc, ◌+◌, ◌-◌, ◌*◌, ◌/◌, ◌%◌, ◌^◌, ◌≤◌, ◌<◌}
-use native.Mathlib.Nat.{div-add-mod', div-lt_iff_lt-mul, le-div_iff_mul-le, mod-lt, mod-eq_of_lt, div-eq_of_lt, mul-add-div_right, mul-add-mod_self_right, pow-suc, eq-or-lt_of_le, mul-le-mul_right, mul-pos}
-use native.Mathlib.Numerals.{add-one, add-two, add-three}
-use native.Mathlib.Omega.{arith}
-use borrow.Author.Tests.{lt-ltb, le-ltb, ltb-true}
-use lib.Dec.{ltb}
-use lib.ListN.{length, drop, get_or, replicate, get_or-append}
-use lib.Seq.{drop_at, get_or-append_seam}
+use Rattle.std.proofs.Common.{◌≡◌, refl, ◌↔◌, Bool, true, false, cond, Option, Some, None, is_some, IfSome, List, [], ◌∷◌, ◌++◌, ℕ, zero, suc, ◌+◌, ◌-◌, ◌*◌, ◌/◌, ◌%◌, ◌^◌, ◌≤◌, ◌<◌, add-one, arith, ltb, lt-ltb, le-ltb, length, drop, get_or, replicate}
+use Rattle.std.proofs.Math.Nat.{div-add-mod', div-lt_iff_lt-mul, le-div_iff_mul-le, mod-lt, mod-eq_of_lt, div-eq_of_lt, mul-add-div_right, mul-add-mod_self_right, pow-suc, eq-or-lt_of_le, mul-le-mul_right, mul-pos}
+use Rattle.std.proofs.Math.Numerals.{add-two, add-three}
+use Rattle.std.proofs.Math.ListN.{get_or-append}
+use Rattle.std.proofs.Math.Seq.{get_or-append_seam}
+use Rattle.std.proofs.lemmas.List.{drop_at}
+use borrow.Author.Tests.{ltb-true, ltb-false}
+use mathlib.Core.Bool.{false≢true}
+use mathlib.Core.Logic.{⊎_elim}
 use Rattle.arrays.specs.Arrays.{padded}
 use Rattle.arrays.proofs.Laws.{padded_length}
-use Rattle.draw.specs.declared.Found.{Found}
-use Rattle.draw.specs.declared.Found.TheVariants.{Value, Spent}
-use Rattle.draw.specs.Draw.{group, group_at, first_below, digits, draw_limit, no_code_drawn, code_of, drawn}
+use Rattle.draw.specs.Draw.{group, group_at, first_below, digits, draw_limit, code_of, drawn}
 use Rattle.draw.proofs.Laws.{ten_pos, ten_small, digits_length}
 
 -- ---- the limit
@@ -62,7 +57,7 @@ within random n h = rw (le-ltb 9 n h)
 
 -- a group of that value draws the digits of v, whatever follows it
 pub way_draws : (n v k a b c d : ℕ) (r : List ℕ) → n ≤ 9 → v < 10 ^ n → k < ways n → group a b c d ≡ k * 10 ^ n + v
-    → drawn (a ∷ b ∷ c ∷ d ∷ r) n ≡ record { ok = true; code = padded 9 0 (digits v n) }
+    → drawn (a ∷ b ∷ c ∷ d ∷ r) n ≡ Some (padded 9 0 (digits v n))
 unfolding first_below
 way_draws n v k a b c d r h hv hk e =
     let w = way_below n v k hv hk in
@@ -136,26 +131,18 @@ digits_code v n h =
       past = rw (drop_at (digits v n) (replicate (9 - length (digits v n)) 0) n far, far);
     }
 
--- whether a group was found
-abbrev is_value : Found → Bool
-is_value (Value v) = true
-is_value Spent = false
-
-found_code : (n : ℕ) (f : Found) → n ≤ 9 → (code_of n f).ok ≡ true → Code n (code_of n f).code
-found_code n (Value v) h p = digits_code (v % 10 ^ n) n h
-found_code n Spent h p = absurd (false≢true p)
-
-found_none : (n : ℕ) (f : Found) → (code_of n f).ok ≡ false → code_of n f ≡ no_code_drawn
-found_none n (Value v) p = absurd (true≢false p)
-found_none n Spent p = refl
+found_code : (n : ℕ) (found : Option ℕ) → n ≤ 9 → IfSome (code_of n found) (Code n)
+found_code n (Some v) h = digits_code (v % 10 ^ n) n h
+found_code n None h = tt
 
 -- a draw that gives a code gives n digits
-pub code_form : (random : List ℕ) (n : ℕ) → n ≤ 9 → (drawn random n).ok ≡ true → Code n (drawn random n).code
-code_form random n h = rw (within random n h) (found_code n (first_below (draw_limit n) random) h)
-
--- one that gives none gives nine zeros
-pub no_code_lem : (random : List ℕ) (n : ℕ) → n ≤ 9 → (drawn random n).ok ≡ false → drawn random n ≡ no_code_drawn
-no_code_lem random n h = rw (within random n h) (found_none n (first_below (draw_limit n) random))
+pub code_form : (random : List ℕ) (n : ℕ) → IfSome (drawn random n) (Code n)
+unfolding drawn
+code_form random n = go (ltb 9 n) refl
+  where
+    go : (above : Bool) → ltb 9 n ≡ above → IfSome (drawn random n) (Code n)
+    go true e = rw e tt
+    go false e = let h = ltb-false 9 n e in rw (within random n h) (found_code n (first_below (draw_limit n) random) h)
 
 -- ---- when there is a code
 
@@ -175,7 +162,7 @@ below_less l a b c d r j h p =
     let e : 4 * suc j ≡ suc (suc (suc (suc (4 * j)))) = omega arith in
     (j, omega arith, rw (add-one, add-two, add-three) (rw (e, add-one, add-two, add-three) at p))
 
-found_below : (l : ℕ) (s : List ℕ) → is_value (first_below l s) ≡ true → Below l s
+found_below : (l : ℕ) (s : List ℕ) → is_some (first_below l s) ≡ true → Below l s
 unfolding first_below
 found_below l [] h = absurd (false≢true h)
 found_below l (a ∷ []) h = absurd (false≢true h)
@@ -183,12 +170,12 @@ found_below l (a ∷ b ∷ []) h = absurd (false≢true h)
 found_below l (a ∷ b ∷ c ∷ []) h = absurd (false≢true h)
 found_below l (a ∷ b ∷ c ∷ d ∷ r) h = here (ltb (group a b c d) l) refl (found_below l r) h
   where
-    here : (t : Bool) → ltb (group a b c d) l ≡ t → (is_value (first_below l r) ≡ true → Below l r)
-        → is_value (cond t (Value (group a b c d)) (first_below l r)) ≡ true → Below l (a ∷ b ∷ c ∷ d ∷ r)
+    here : (t : Bool) → ltb (group a b c d) l ≡ t → (is_some (first_below l r) ≡ true → Below l r)
+        → is_some (cond t (Some (group a b c d)) (first_below l r)) ≡ true → Below l (a ∷ b ∷ c ∷ d ∷ r)
     here true e f h = (0, omega arith, ltb-true (group a b c d) l e)
     here false e f h = below_more l a b c d r (f h)
 
-below_found : (l : ℕ) (s : List ℕ) (j : ℕ) → 4 * j + 3 < length s → group_at s (4 * j) < l → is_value (first_below l s) ≡ true
+below_found : (l : ℕ) (s : List ℕ) (j : ℕ) → 4 * j + 3 < length s → group_at s (4 * j) < l → is_some (first_below l s) ≡ true
 unfolding first_below
 below_found l [] j h p = absurd (omega arith)
 below_found l (a ∷ []) j h p = absurd (omega arith)
@@ -199,16 +186,16 @@ below_found l (a ∷ b ∷ c ∷ d ∷ r) (suc j) h p =
     let w = below_less l a b c d r j h p in
     either (ltb (group a b c d) l) (below_found l r w.0 w.1 w.2)
   where
-    either : (t : Bool) → is_value (first_below l r) ≡ true → is_value (cond t (Value (group a b c d)) (first_below l r)) ≡ true
+    either : (t : Bool) → is_some (first_below l r) ≡ true → is_some (cond t (Some (group a b c d)) (first_below l r)) ≡ true
     either true q = refl
     either false q = q
 
-code_ok : (n : ℕ) (f : Found) → (code_of n f).ok ≡ is_value f
-code_ok n (Value v) = refl
-code_ok n Spent = refl
+code_some : (n : ℕ) (found : Option ℕ) → is_some (code_of n found) ≡ is_some found
+code_some n (Some v) = refl
+code_some n None = refl
 
 -- a draw gives a code exactly if some whole group is below the draw limit
-pub ok_exactly : (random : List ℕ) (n : ℕ) → n ≤ 9 → (drawn random n).ok ≡ true ↔ Below (draw_limit n) random
+pub ok_exactly : (random : List ℕ) (n : ℕ) → n ≤ 9 → is_some (drawn random n) ≡ true ↔ Below (draw_limit n) random
 ok_exactly random n h =
-    rw (within random n h, code_ok n (first_below (draw_limit n) random))
+    rw (within random n h, code_some n (first_below (draw_limit n) random))
     (found_below (draw_limit n) random, λ w. below_found (draw_limit n) random w.0 w.1 w.2)

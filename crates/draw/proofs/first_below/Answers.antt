@@ -1,29 +1,16 @@
-use mathlib.Core.Path.{refl}
-use native.Mathlib.Omega.{arith}
-use Rattle.draw.proofs.Laws.{group_here, group_again, group_end}
+-- The groups of the slice are those of the definition, and one is passed at a turn.
+use Rattle.std.proofs.Common.{◌∙◌, sym, arith, drop_of_length-le}
+use Rattle.draw.proofs.Laws.{among_chunks, among_here, among_next}
 use Rattle.draw.proofs.first_below.Goals as goal
 
-pub loop-i-init : goal.loop-i-init
-loop-i-init c = (omega arith, refl)
+pub loop-g-init : goal.loop-g-init
+loop-g-init c = rw c.as_chunks.ensures.front (sym (among_chunks c.args.limit _ c.args.s.now (omega arith)))
 
 pub returns-then-v-limit : goal.returns-then-v-limit
-returns-then-v-limit c =
-    let s = c.args.s.now in
-    let limit = c.args.limit in
-    let at = c.loop-i in
-    let e = c.group_at-v.ensures in
-    rw e (group_here limit s at.i at.invariant.1 (omega arith) (rw e at c.if-v-limit.true))
+returns-then-v-limit c = sym (c.loop-g.invariant ∙ among_here _ _ _ _ c.loop-g-test.true c.from_le_bytes-v.ensures c.if-v-limit.true)
 
-pub loop-i-preserved : goal.loop-i-preserved
-loop-i-preserved c =
-    let s = c.args.s.now in
-    let limit = c.args.limit in
-    let at = c.loop-i in
-    let e = c.group_at-v.ensures in
-    (omega arith, group_again limit s at.i at.invariant.1 (omega arith) (rw e at c.if-v-limit.false))
+pub loop-g-preserved : goal.loop-g-preserved
+loop-g-preserved c = c.loop-g.invariant ∙ among_next _ _ _ _ c.loop-g-test.true c.from_le_bytes-v.ensures c.if-v-limit.false
 
 pub returns : goal.returns
-returns c =
-    let s = c.args.s.now in
-    let at = c.loop-i in
-    group_end c.args.limit s at.i at.invariant.1 c.loop-i-test.false
+returns c = rw (c.loop-g.invariant, drop_of_length-le c.as_chunks.result.0.now c.loop-g-test.false)
