@@ -1,8 +1,5 @@
 -- Worked examples: P5, separators, and strings at the edges of the grammar and of White_Space.
-use mathlib.Core.Path.{◌≡◌, refl}
-use mathlib.Core.Bool.{true, false}
-use mathlib.Core.List.{List, [], ◌∷◌, map}
-use Prim.Native.Nat.{ℕ}
+use Rattle.std.proofs.Common.{◌≡◌, ℕ, true, false, List, [], ◌∷◌, map, refl}
 use Rattle.arrays.specs.Arrays.{same_bytes}
 use Rattle.utf8.specs.Utf8.{within, encode, encode_all, decode, utf8_2, utf8_3, utf8_4, begins3, begins4}
 use Rattle.text.specs.Text.{white, trim_front, trim, is_text, trimmed, is_digit, is_separator, begins_digit, is_dropped, ungrouped_from, ungrouped, right}

@@ -1,11 +1,8 @@
 -- What is text, by RFC 3629's encoding.
-use mathlib.Core.Path.{◌≡◌, refl}
-use mathlib.Core.Bool.{true, false≢true}
-use mathlib.Core.List.{List}
-use mathlib.Core.Option.{Option, none, some}
-use Prim.Native.Nat.{ℕ}
+use Rattle.std.proofs.Common.{◌≡◌, ℕ, true, List, refl}
+use Rattle.std.specs.Prelude.{Option, Some, None, is_some}
 use Rattle.utf8.specs.Utf8.{scalars, encode_all, decode}
-use Rattle.text.specs.Text.{trim, is_text, trimmed, is_some}
+use Rattle.text.specs.Text.{trim, is_text, trimmed}
 use Rattle.utf8.proofs.Utf8.{Encoding, decode_sound, decode_complete}
 
 -- what is text is the encoding of scalar values
@@ -14,8 +11,8 @@ unfolding is_text
 text_encodes s h = go (decode s) refl h
   where
     go : (x : Option (List ℕ)) → decode s ≡ x → is_some x ≡ true → (cs : List ℕ) × Encoding cs s
-    go none e h = absurd (false≢true h)
-    go (some cs) e h = (cs, decode_sound s cs e)
+    go None e h = absurd cc
+    go (Some cs) e h = (cs, decode_sound s cs e)
 
 -- the encoding of scalar values is text, and trimmed it is the encoding of those that are left
 pub encoding_text : (cs : List ℕ) → scalars cs ≡ true → (is_text (encode_all cs) ≡ true) × (trimmed (encode_all cs) ≡ encode_all (trim cs))

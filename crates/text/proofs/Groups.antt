@@ -10,20 +10,10 @@ use lib.Dec.{leb}
 use lib.ListN.{length, take, drop, get_or, drop_of_length-le, length-append, length-take}
 use lib.Seq.{drop-cons, take_all, take_at}
 use Rattle.arrays.specs.Arrays.{padded, same_bytes}
-use Rattle.arrays.proofs.Laws.{padded_length, padded_push, padded_take, same_length}
-use Rattle.text.specs.Text.{is_digit, begins_digit, is_dropped, ungrouped_from, ungrouped}
-use Rattle.text.specs.Steps.{first_ten, kept_of}
+use Rattle.arrays.proofs.Laws.{padded_push, padded_take, same_length}
+use Rattle.text.specs.Text.{is_digit, is_dropped, ungrouped_from, ungrouped}
+use Rattle.text.specs.Steps.{first_ten, pushed}
 use Rattle.text.specs.declared.Grouped.{Grouped}
-
-pub no_digit : (s : List ℕ) → length s < 1 → false ≡ begins_digit s
-unfolding begins_digit
-no_digit [] h = refl
-no_digit (b ∷ s) h = absurd (omega arith)
-
-pub first_digit : (s : List ℕ) → 1 ≤ length s → is_digit (get_or s 0 0) ≡ begins_digit s
-unfolding begins_digit
-first_digit [] h = absurd (omega arith)
-first_digit (b ∷ s) h = refl
 
 -- ---- the invariant
 
@@ -41,31 +31,28 @@ unfolding ungrouped
 kept_start s g b n = record { out = []; whole = refl; bytes = b; count = n; room = omega arith; fits = omega arith }
 
 module _ (s : List ℕ) (g : Grouped) (behind : Bool) (i : ℕ) (k : Kept s g behind i) where
-  kept_turn : (b : ℕ) (t : List ℕ) → g.len < 10 → i < length s → drop i s ≡ b ∷ t → drop (i + 1) s ≡ t
-      → Kept s (kept_of g b (is_dropped behind b t)) (is_digit b) (i + 1)
-  unfolding kept_of ungrouped_from
-  kept_turn b t room h e f = go (is_dropped behind b t) refl
-    where
-      whole : (d : Bool) → is_dropped behind b t ≡ d
-          → ungrouped s ≡ k.out ++ cond d (ungrouped_from (is_digit b) t) (b ∷ ungrouped_from (is_digit b) t)
-      whole d p = k.whole ∙ rw (e, p)
+  step : (d : Bool) → is_dropped behind (get_or s i 0) (drop (i + 1) s) ≡ d → i < length s
+      → ungrouped s ≡ k.out ++ cond d (ungrouped_from (is_digit (get_or s i 0)) (drop (i + 1) s)) (get_or s i 0 ∷ ungrouped_from (is_digit (get_or s i 0)) (drop (i + 1) s))
+  unfolding ungrouped_from
+  step d p h = let q = drop-cons s i 0 h in let r : drop i s ≡ get_or s i 0 ∷ drop (i + 1) s = rw add-one q in k.whole ∙ rw (r, p)
 
-      go : (d : Bool) → is_dropped behind b t ≡ d → Kept s (kept_of g b d) (is_digit b) (i + 1)
-      go true p = record { out = k.out; whole = rw f (whole true p); bytes = k.bytes; count = k.count; room = k.room; fits = omega arith }
-      go false p =
-          record {
-            out = k.out ++ (b ∷ []);
-            whole = rw (f, append_assoc k.out (b ∷ []) (ungrouped_from (is_digit b) t)) (whole false p);
-            bytes = rw (k.bytes, k.count) (padded_push 10 0 b k.out (omega (arith, k.count)));
-            count = rw (length-append k.out (b ∷ [])) (omega (arith, k.count));
-            room = rw (length-append k.out (b ∷ [])) (omega (arith, k.count));
-            fits = omega arith;
-          }
+  -- a byte that is dropped
+  pub kept_dropped : is_dropped behind (get_or s i 0) (drop (i + 1) s) ≡ true → i < length s → Kept s g (is_digit (get_or s i 0)) (i + 1)
+  kept_dropped p h = record { out = k.out; whole = step true p h; bytes = k.bytes; count = k.count; room = k.room; fits = omega arith }
 
   -- one byte more
-  pub kept_next : g.len < 10 → i < length s
-      → Kept s (kept_of g (get_or s i 0) (is_dropped behind (get_or s i 0) (drop (i + 1) s))) (is_digit (get_or s i 0)) (i + 1)
-  kept_next room h = kept_turn (get_or s i 0) (drop (i + 1) s) room h (rw add-one (drop-cons s i 0 h)) refl
+  pub kept_next : is_dropped behind (get_or s i 0) (drop (i + 1) s) ≡ false → i < length s → g.len < 10
+      → Kept s (pushed g (get_or s i 0)) (is_digit (get_or s i 0)) (i + 1)
+  kept_next p h room =
+      let b = get_or s i 0 in
+      record {
+        out = k.out ++ (b ∷ []);
+        whole = rw (append_assoc k.out (b ∷ []) (ungrouped_from (is_digit b) (drop (i + 1) s))) (step false p h);
+        bytes = rw (k.bytes, k.count) (padded_push 10 0 b k.out (omega (arith, k.count)));
+        count = rw (length-append k.out (b ∷ [])) (omega (arith, k.count));
+        room = rw (length-append k.out (b ∷ [])) (omega (arith, k.count));
+        fits = omega arith;
+      }
 
   -- ten are the first ten
   pub kept_ten : 10 ≤ g.len → g ≡ first_ten (ungrouped s)
@@ -83,12 +70,9 @@ module _ (s : List ℕ) (g : Grouped) (behind : Bool) (i : ℕ) (k : Kept s g be
 
 -- ---- ten bytes are enough
 
--- as many bytes as `first_ten` counts: there are so many, and they are the first ten
-pub ten_length : (s : List ℕ) → (first_ten s).len ≤ length (first_ten s).bytes
+pub ten_length : (s : List ℕ) → (first_ten s).len ≤ 10
 unfolding first_ten
-ten_length s =
-    let short : length (take 10 s) ≤ 10 = rw length-take (omega arith) in
-    rw (padded_length 10 0 (take 10 s) short) short
+ten_length s = rw length-take (omega arith)
 
 pub ten_bytes : (s : List ℕ) → take (first_ten s).len (first_ten s).bytes ≡ take 10 s
 unfolding first_ten

@@ -1,4 +1,3 @@
-pub mod White
 pub mod Encodes
 pub mod Scan
 pub mod Same

@@ -2,20 +2,15 @@
 use mathlib.Core.Path.{◌≡◌, refl, ap, sym, ◌∙◌}
 use mathlib.Core.Bool.{Bool, true, false, cond}
 use mathlib.Core.List.{List, [], ◌∷◌, ◌++◌, reverse, append-nil, append_assoc, reverse-append, reverse-reverse, reverse-cons}
-use mathlib.Core.Option.{Option, none, some}
+use Rattle.std.specs.Prelude.{Option, Some, None}
 use Prim.Native.Nat.{ℕ, ◌+◌, ◌-◌, ◌/◌, ◌%◌, ◌≤◌, ◌<◌}
 use native.Mathlib.Omega.{arith}
-use borrow.Author.Tests.{eqb-true, eqb-false}
-use lib.Dec.{leb, eqb}
+use lib.Dec.{leb}
 use lib.ListN.{length, take, drop, length-append, length-take, length-drop, drop_of_length-le}
-use lib.Seq.{take-add, drop-drop}
+use lib.Seq.{take-add, take_all, drop-drop}
 use Rattle.utf8.specs.Utf8.{encode, encode_all, decode, before}
 use Rattle.text.specs.Text.{white, trim_front, trim, is_text, trimmed}
-use Rattle.utf8.specs.First.{first_char}
-use Rattle.text.specs.Steps.{turn_of, part, Says}
-use Rattle.utf8.specs.declared.Char.TheVariants.{Point, Bad}
-use Rattle.text.specs.declared.Span.{Span}
-use Rattle.text.specs.declared.Trimmed.TheVariants.{Text}
+use Rattle.utf8.specs.First.{char_of, first_char}
 use Rattle.utf8.proofs.Utf8.{decode_bad, decode_point, first_good}
 
 -- ---- the trimmed list after one more code point
@@ -71,6 +66,10 @@ module _ (p : List ℕ) (c : ℕ) (none : trim_front p ≡ []) (w : white c ≡ 
 
 -- ---- octets
 
+-- what stands from a to before e
+abbrev part : ℕ → ℕ → List ℕ → List ℕ
+part a e s = take (e - a) (drop a s)
+
 encode_more : (p : List ℕ) (c : ℕ) → encode_all (p ++ (c ∷ [])) ≡ encode_all p ++ encode c
 unfolding encode_all
 encode_more [] c = append-nil (encode c)
@@ -108,31 +107,32 @@ encode_none (c ∷ p) h = absurd (omega (arith, encode_long c, length-append (en
 -- ---- decoding, with code points in front
 
 abbrev joined : List ℕ → Option (List ℕ) → Option (List ℕ)
-joined p none = none
-joined p (some cs) = some (p ++ cs)
+joined p None = None
+joined p (Some cs) = Some (p ++ cs)
 
 joined_none : (x : Option (List ℕ)) → x ≡ joined [] x
-joined_none none = refl
-joined_none (some cs) = refl
+joined_none None = refl
+joined_none (Some cs) = refl
 
 joined_more : (p : List ℕ) (c : ℕ) (x : Option (List ℕ)) → joined p (before c x) ≡ joined (p ++ (c ∷ [])) x
-joined_more p c none = refl
-joined_more p c (some cs) = ap (λ (l : List ℕ). some l) (sym (append_assoc p (c ∷ []) cs))
+joined_more p c None = refl
+joined_more p c (Some cs) = ap (λ (l : List ℕ). Some l) (sym (append_assoc p (c ∷ []) cs))
 
 -- ---- the invariant
 
--- the code points before t.at; the span is what is left of them trimmed, and reaches to t.at if trimmed in front only
-pub record Scanned (s : List ℕ) (t : Span) : Type 0 where
+-- the code points before at; from start to end stands what is left of them trimmed, and from start to at what is left of
+-- them trimmed in front only
+pub record Scanned (s : List ℕ) (start end at : ℕ) : Type 0 where
   pub seen : List ℕ
-  pub rest : decode s ≡ joined seen (decode (drop t.at s))
-  pub front : encode_all (trim_front seen) ≡ part t.start t.at s
-  pub both : encode_all (trim seen) ≡ part t.start t.end s
-  pub order : t.start ≤ t.end
-  pub inside : t.end ≤ t.at
-  pub fits : t.at ≤ length s
-  pub empty : t.start ≡ t.end → t.start ≡ t.at
+  pub rest : decode s ≡ joined seen (decode (drop at s))
+  pub front : encode_all (trim_front seen) ≡ part start at s
+  pub both : encode_all (trim seen) ≡ part start end s
+  pub order : start ≤ end
+  pub inside : end ≤ at
+  pub fits : at ≤ length s
+  pub empty : start ≡ end → start ≡ at
 
-pub scan_start : (s : List ℕ) → Scanned s (record { start = 0; end = 0; at = 0 })
+pub scan_start : (s : List ℕ) → Scanned s 0 0 0
 unfolding trim trim_front encode_all
 scan_start s =
     record {
@@ -146,53 +146,57 @@ scan_start s =
       empty = λ e. refl;
     }
 
+part_all : (s : List ℕ) (at : ℕ) → part at (length s) s ≡ drop at s
+part_all s at = take_all (length s - at) (drop at s) (rw length-drop (omega arith))
+
 -- one more code point, of k octets
-module _ (s : List ℕ) (t : Span) (c k : ℕ) (i : Scanned s t) (e : first_char (drop t.at s) ≡ Point c k) where
+module _ (s : List ℕ) (start end at c k : ℕ) (i : Scanned s start end at) (e : char_of c k ≡ first_char (part at (length s) s)) where
+  here : first_char (drop at s) ≡ char_of c k
+  here = ap first_char (sym (part_all s at)) ∙ sym e
+
   more : List ℕ
   more = i.seen ++ (c ∷ [])
 
-  more_rest : decode s ≡ joined more (decode (drop (t.at + k) s))
+  more_rest : decode s ≡ joined more (decode (drop (at + k) s))
   unfolding more
   more_rest =
-      let r = drop t.at s in
-      rw (← drop-drop k t.at s)
-      (i.rest ∙ ap (joined i.seen) (decode_point r c k e) ∙ joined_more i.seen c (decode (drop k r)))
+      let r = drop at s in
+      rw (← drop-drop k at s)
+      (i.rest ∙ ap (joined i.seen) (decode_point r c k here) ∙ joined_more i.seen c (decode (drop k r)))
 
-  octets : encode c ≡ take k (drop t.at s)
-  octets = (first_good (drop t.at s) c k e).0.octets
+  octets : encode c ≡ take k (drop at s)
+  octets = (first_good (drop at s) c k here).0.octets
 
-  next_more : 1 ≤ k
-  next_more = (first_good (drop t.at s) c k e).1
-
-  pub next_fits : t.at + k ≤ length s
-  next_fits = omega (arith, (first_good (drop t.at s) c k e).2, length-drop t.at s)
+  -- it goes on, and not past the end
+  pub scan_next : (1 ≤ k) × (at + k ≤ length s)
+  scan_next = let g = first_good (drop at s) c k here in (g.1, omega (arith, g.2, i.fits, length-drop at s))
 
   -- kept in front
   module _ (kept : trim_front more ≡ trim_front i.seen ++ (c ∷ [])) where
-    more_front : encode_all (trim_front more) ≡ part t.start (t.at + k) s
-    more_front = rw (kept, encode_more (trim_front i.seen) c, i.front, octets) (part_more s t.start t.at k (omega arith))
+    more_front : encode_all (trim_front more) ≡ part start (at + k) s
+    more_front = rw (kept, encode_more (trim_front i.seen) c, i.front, octets) (part_more s start at k (omega (arith, i.order, i.inside)))
 
-  -- white while nothing is kept: the empty span goes along
-  turn_blank : white c ≡ true → t.start ≡ t.end → Scanned s (record { start = t.at + k; end = t.at + k; at = t.at + k })
+  -- white while nothing is kept: the empty part goes along
+  pub scan_blank : white c ≡ true → start ≡ end → Scanned s (at + k) (at + k) (at + k)
   unfolding more encode_all
-  turn_blank w q =
+  scan_blank w q =
       let p = i.empty q in
-      let n : trim_front i.seen ≡ [] = encode_none (trim_front i.seen) (rw (i.front, p) (ap length (part_empty s t.at))) in
+      let n : trim_front i.seen ≡ [] = encode_none (trim_front i.seen) (rw (i.front, p) (ap length (part_empty s at))) in
       record {
         seen = more;
         rest = more_rest;
-        front = rw (front_blank i.seen c n w) (sym (part_empty s (t.at + k)));
-        both = rw (trim_blank i.seen c n w) (sym (part_empty s (t.at + k)));
+        front = rw (front_blank i.seen c n w) (sym (part_empty s (at + k)));
+        both = rw (trim_blank i.seen c n w) (sym (part_empty s (at + k)));
         order = omega arith;
         inside = omega arith;
-        fits = next_fits;
+        fits = scan_next.1;
         empty = λ e. refl;
       }
 
-  -- white later: the span stays
-  turn_white : white c ≡ true → (t.start ≡ t.end → ⊥) → Scanned s (record { start = t.start; end = t.end; at = t.at + k })
+  -- white later: the part stays
+  pub scan_white : white c ≡ true → (start ≡ end → ⊥) → Scanned s start end (at + k)
   unfolding more encode_all
-  turn_white w q =
+  scan_white w q =
       let kept : trim_front more ≡ trim_front i.seen ++ (c ∷ []) = kept_later i.seen c some_kept in
       record {
         seen = more;
@@ -201,18 +205,18 @@ module _ (s : List ℕ) (t : Span) (c k : ℕ) (i : Scanned s t) (e : first_char
         both = rw (trim_white i.seen c kept w) i.both;
         order = i.order;
         inside = omega arith;
-        fits = next_fits;
+        fits = scan_next.1;
         empty = λ e. absurd (q e);
       }
     where
       some_kept : trim_front i.seen ≡ [] → ⊥
       some_kept n =
-          q (omega (arith, sym (part_length s t.start t.at i.fits) ∙ ap length (sym i.front) ∙ ap (λ (l : List ℕ). length (encode_all l)) n))
+          q (omega (arith, sym (part_length s start at i.fits) ∙ ap length (sym i.front) ∙ ap (λ (l : List ℕ). length (encode_all l)) n))
 
-  -- any other: the span ends behind it
-  turn_solid : white c ≡ false → Scanned s (record { start = t.start; end = t.at + k; at = t.at + k })
+  -- any other: the part ends behind it
+  pub scan_solid : white c ≡ false → Scanned s start (at + k) (at + k)
   unfolding more
-  turn_solid w =
+  scan_solid w =
       let kept : trim_front more ≡ trim_front i.seen ++ (c ∷ []) = kept_solid i.seen c w in
       record {
         seen = more;
@@ -221,35 +225,22 @@ module _ (s : List ℕ) (t : Span) (c k : ℕ) (i : Scanned s t) (e : first_char
         both = ap encode_all (trim_solid i.seen c kept w ∙ sym kept) ∙ more_front kept;
         order = omega arith;
         inside = omega arith;
-        fits = next_fits;
-        empty = λ q. absurd (omega (arith, next_more));
+        fits = scan_next.1;
+        empty = λ q. absurd (omega (arith, scan_next.0));
       }
-
-  pub scan_turn : Scanned s (turn_of t c (t.at + k)) × (t.at < (turn_of t c (t.at + k)).at)
-  unfolding turn_of
-  scan_turn = go (white c) (eqb t.start t.end) refl refl
-    where
-      turned : Bool → Bool → Span
-      turned x y =
-          cond x
-          (cond y (record { start = t.at + k; end = t.at + k; at = t.at + k }) (record { start = t.start; end = t.end; at = t.at + k }))
-          (record { start = t.start; end = t.at + k; at = t.at + k })
-
-      go : (x y : Bool) → white c ≡ x → eqb t.start t.end ≡ y → Scanned s (turned x y) × (t.at < (turned x y).at)
-      go true true w q = (turn_blank w (eqb-true t.start t.end q), omega (arith, next_more))
-      go true false w q = (turn_white w (eqb-false t.start t.end q), omega (arith, next_more))
-      go false y w q = (turn_solid w, omega (arith, next_more))
 
 -- ---- the answers
 
-pub scan_bad : (s : List ℕ) (t : Span) → Scanned s t → t.at < length s → first_char (drop t.at s) ≡ Bad → is_text s ≡ false
-unfolding is_text
-scan_bad s t i h e =
-    let d : decode s ≡ none = i.rest ∙ ap (joined i.seen) (decode_bad (drop t.at s) (rw length-drop (omega arith)) e) in
-    rw d
+module _ (s : List ℕ) (start end at : ℕ) (i : Scanned s start end at) where
+  pub scan_bad : at < length s → None ≡ first_char (part at (length s) s) → is_text s ≡ false
+  unfolding is_text
+  scan_bad h e =
+      let f : first_char (drop at s) ≡ None = ap first_char (sym (part_all s at)) ∙ sym e in
+      let d : decode s ≡ None = i.rest ∙ ap (joined i.seen) (decode_bad (drop at s) (rw length-drop (omega arith)) f) in
+      rw d
 
-pub scan_end : (s : List ℕ) (t : Span) → Scanned s t → length s ≤ t.at → Says s (Text t.start t.end)
-unfolding is_text trimmed decode
-scan_end s t i h =
-    let d : decode s ≡ some i.seen = rw (drop_of_length-le s h, append-nil i.seen) at i.rest in
-    (rw d, rw d i.both, i.order, omega arith)
+  pub scan_end : length s ≤ at → (is_text s ≡ true) × (trimmed s ≡ part start end s)
+  unfolding is_text trimmed decode
+  scan_end h =
+      let d : decode s ≡ Some i.seen = rw (drop_of_length-le s h, append-nil i.seen) at i.rest in
+      (rw d, rw d i.both)

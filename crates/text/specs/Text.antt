@@ -1,7 +1,6 @@
 -- The typed code: is it text, White_Space trimmed, separators between digits dropped, is it right (document 01, "Submit a code" and
 -- "Sessions and codes"; document 02, W-202).
-use Rattle.std.specs.Prelude.{Bool, true, false, cond, ◌&&◌, ◌||◌, List, [], ◌∷◌, reverse, ℕ, eqb, take}
-use Rattle.std.proofs.Math.Option.{Option, none, some}
+use Rattle.std.specs.Prelude.{Bool, false, cond, ◌&&◌, ◌||◌, List, [], ◌∷◌, reverse, ℕ, eqb, take, Option, Some, None, is_some}
 use Rattle.arrays.specs.Arrays.{same_bytes}
 use Rattle.utf8.specs.Utf8.{within, decode, encode_all}
 
@@ -28,13 +27,9 @@ trim_front (c ∷ cs) = cond (white c) (trim_front cs) (c ∷ cs)
 unfoldable pub trim : List ℕ → List ℕ
 trim cs = reverse (trim_front (reverse (trim_front cs)))
 
-abbrev pub is_some : Option (List ℕ) → Bool
-is_some none = false
-is_some (some cs) = true
-
 abbrev pub trimmed_of : Option (List ℕ) → List ℕ
-trimmed_of none = []
-trimmed_of (some cs) = encode_all (trim cs)
+trimmed_of None = []
+trimmed_of (Some cs) = encode_all (trim cs)
 
 -- UTF-8 or not
 unfoldable pub is_text : List ℕ → Bool

@@ -1,165 +1,121 @@
 // A typed code: whether it is text, and whether it is right once White_Space is trimmed and separators between digits are dropped.
 #![tactic(auto)]
 
-ghost use Rattle.std.specs.Prelude.{◌≡◌, min, ◌<◌, take};
+ghost use Rattle.std.specs.Prelude.{◌≡◌, ◌<◌, ◌≤◌, true, false, take, MatchOption};
 ghost use Rattle.arrays.specs.Arrays.{same_bytes};
-ghost use Rattle.text.specs.Text.{white, is_text, is_digit, is_separator, begins_digit, is_dropped, ungrouped, right};
-ghost use Rattle.text.specs.Steps.{turn_of, Says, first_ten, kept_of};
+ghost use Rattle.text.specs.Text.{white, is_text, trimmed, is_digit, is_separator, begins_digit, is_dropped, ungrouped, right};
+ghost use Rattle.text.specs.Steps.{first_ten, pushed};
 
 use utf8::Char;
 
-// What is not trimmed so far, from `start` to before `end`, and the place of the next character.
-#[derive(Clone, Copy)]
-struct Span {
-    start: usize,
-    end: usize,
-    at: usize,
-}
-
-// A text without the White_Space at both ends, from its first byte to before the second place.
-#[derive(Clone, Copy)]
-enum Trimmed {
-    Text(usize, usize),
-    NotText,
-}
-
-// What is left of a text without separators, as far as ten bytes: one more than the longest code has.
+// What is left of a text without separators, as far as ten bytes: one more than the longest code has. No heap, so the bytes
+// stand in an array with their number beside it.
 #[derive(Clone, Copy)]
 struct Grouped {
     bytes: [u8; 10],
     len: usize,
 }
 
+impl Grouped {
+    // One byte more.
+    fn push(&mut self, b: u8)
+        requires { self.old.len < 10 }
+        ensures { self.new ≡ pushed self.old b }
+    {
+        self.bytes[self.len] = b;
+        self.len += 1;
+    }
+
+    // The bytes in use.
+    fn as_slice(&self) -> &[u8]
+        requires { self.now.len ≤ 10 }
+        ensures { result.now ≡ take self.now.len self.now.bytes }
+    {
+        &self.bytes[..self.len]
+    }
+}
+
 // The 25 code points of White_Space.
+#[tactic(auto, unfolding(crate::specs::Text::white, utf8::specs::Utf8::within))]
 fn is_white(c: u32) -> bool
     ensures { result ≡ white c }
 {
-    match c {
-        9..=13 | 32 | 133 | 160 | 5760 | 8192..=8202 | 8232 | 8233 | 8239 | 8287 | 12288 => true,
-        _ => false,
-    }
+    matches!(c, 9..=13 | 32 | 133 | 160 | 5760 | 8192..=8202 | 8232 | 8233 | 8239 | 8287 | 12288)
 }
 
-// One turn of trim: a code point that ends before the place `next`. An empty span goes along.
-fn turn(t: Span, c: u32, next: usize) -> Span
-    ensures { result ≡ turn_of t c next }
+// A text without the White_Space at both ends; none if s is no text.
+fn trim(s: &[u8]) -> Option<&[u8]>
+    ensures { MatchOption result (is_text s.now ≡ false) (λ t. (is_text s.now ≡ true) × (trimmed s.now ≡ t.now)) }
 {
-    if is_white(c) {
-        if t.start == t.end {
-            return Span {
-                start: next,
-                end: next,
-                at: next,
-            };
+    let mut start = 0;
+    let mut end = 0;
+    let mut at = 0;
+    while at < s.len() {
+        let Char { point, size } = utf8::first_char(&s[at..])?;
+        at += size;
+        if !is_white(point) {
+            end = at;
+        } else if start == end {
+            start = at;
+            end = at;
         }
-        return Span {
-            start: t.start,
-            end: t.end,
-            at: next,
-        };
     }
-    Span {
-        start: t.start,
-        end: next,
-        at: next,
-    }
-}
-
-// Whether s is text, and where it begins and ends without the White_Space at both ends.
-fn trim(s: &[u8]) -> Trimmed
-    ensures { Says s.now result }
-{
-    let mut t = Span {
-        start: 0,
-        end: 0,
-        at: 0,
-    };
-    while t.at < s.len() {
-        let at = t.at;
-        let Char::Point(c, size) = utf8::first_char(&s[at..]) else {
-            return Trimmed::NotText;
-        };
-        t = turn(t, c, at + size);
-    }
-    Trimmed::Text(t.start, t.end)
+    Some(&s[start..end])
 }
 
 // A digit, as a draw gives it.
+#[tactic(auto, unfolding(crate::specs::Text::is_digit, utf8::specs::Utf8::within))]
 fn is_digit(b: u8) -> bool
     ensures { result ≡ is_digit b }
 {
-    utf8::within(48, 57, utf8::wide(b))
+    b.is_ascii_digit()
 }
 
 // A space or a hyphen.
+#[tactic(auto, unfolding(crate::specs::Text::is_separator))]
 fn is_separator(b: u8) -> bool
     ensures { result ≡ is_separator b }
 {
-    if b == 32 {
-        return true;
-    }
-    b == 45
+    matches!(b, b' ' | b'-')
 }
 
+#[tactic(auto, unfolding(crate::specs::Text::begins_digit))]
 fn begins_digit(s: &[u8]) -> bool
     ensures { result ≡ begins_digit s.now }
 {
-    if s.len() < 1 {
-        return false;
+    match *s {
+        [b, ..] => is_digit(b),
+        [] => false,
     }
-    is_digit(s[0])
 }
 
 // Whether b is one separator between two digits: `behind` of a digit, and before the first of s.
+#[tactic(auto, unfolding(crate::specs::Text::is_dropped))]
 fn is_dropped(behind: bool, b: u8, s: &[u8]) -> bool
     ensures { result ≡ is_dropped behind b s.now }
 {
-    if behind {
-        if is_separator(b) {
-            return begins_digit(s);
-        }
-    }
-    false
-}
-
-// One turn of ungroup.
-fn keep(g: Grouped, b: u8, dropped: bool) -> Grouped
-    requires { g.len < 10 }
-    ensures { result ≡ kept_of g b dropped }
-{
-    if dropped {
-        return g;
-    }
-    let at = g.len;
-    let mut bytes = g.bytes;
-    bytes[at] = b;
-    Grouped {
-        bytes: bytes,
-        len: at + 1,
-    }
+    behind && is_separator(b) && begins_digit(s)
 }
 
 // What is left of s once separators between digits are dropped, as far as ten bytes.
 fn ungroup(s: &[u8]) -> Grouped
     ensures { result ≡ first_ten (ungrouped s.now) }
 {
-    let mut g = Grouped {
+    let mut kept = Grouped {
         bytes: [0; 10],
         len: 0,
     };
     let mut behind = false;
-    let mut i = 0;
-    while i < s.len() {
-        if 10 <= g.len {
-            return g;
+    for (i, b) in s.iter().enumerate() {
+        if kept.len == 10 {
+            break;
         }
-        let b = s[i];
-        i += 1;
-        let dropped = is_dropped(behind, b, &s[i..]);
-        g = keep(g, b, dropped);
-        behind = is_digit(b);
+        if !is_dropped(behind, *b, &s[i + 1..]) {
+            kept.push(*b);
+        }
+        behind = is_digit(*b);
     }
-    g
+    kept
 }
 
 // Whether two byte strings are equal. It looks at every byte, wherever the first difference is.
@@ -169,42 +125,25 @@ fn same_all(a: &[u8], b: &[u8]) -> bool
     if a.len() != b.len() {
         return false;
     }
-    let mut differ: u8 = 0;
-    let mut i = 0;
-    while i < a.len() {
-        differ = differ | (a[i] ^ b[i]);
-        i += 1;
+    let mut differ = 0;
+    for (x, y) in a.iter().zip(b) {
+        differ |= x ^ y;
     }
     differ == 0
-}
-
-// At most the nine bytes of a code.
-fn clamp(n: usize) -> usize
-    ensures { result ≡ min n 9 }
-{
-    if n < 9 { n } else { 9 }
 }
 
 // Whether a trimmed text, ungrouped, is the first n bytes of the code.
 fn is_code(code: [u8; 9], n: usize, s: &[u8]) -> bool
     ensures { result ≡ same_bytes (ungrouped s.now) (take n code) }
 {
-    let k = clamp(n);
-    let g = ungroup(s);
-    let bytes = g.bytes;
-    let len = g.len;
-    same_all(&bytes[..len], &code[..k])
+    same_all(ungroup(s).as_slice(), &code[..n.min(9)])
 }
 
 // Whether s is UTF-8.
 pub fn is_text(s: &[u8]) -> bool
     ensures { result ≡ is_text s.now }
 {
-    let t = trim(s);
-    match t {
-        Trimmed::Text(_, _) => true,
-        Trimmed::NotText => false,
-    }
+    trim(s).is_some()
 }
 
 // Whether s is text and, trimmed and ungrouped, the first n bytes of the code.
@@ -212,9 +151,5 @@ pub fn is_text(s: &[u8]) -> bool
 pub fn is_right(code: [u8; 9], n: usize, s: &[u8]) -> bool
     ensures { result ≡ right code n s.now }
 {
-    let t = trim(s);
-    match t {
-        Trimmed::Text(a, e) => is_code(code, n, &s[a..e]),
-        Trimmed::NotText => false,
-    }
+    trim(s).is_some_and(|t| is_code(code, n, t))
 }

@@ -1,45 +1,58 @@
-use Rattle.std.proofs.Common.{◌≡◌, ℕ, ◌-◌, List, length, take, drop, ap, sym, ◌∙◌, arith, length-drop, take_all}
-use Rattle.utf8.specs.declared.Char.{Char}
-use Rattle.utf8.specs.First.{first_char}
-use Rattle.text.proofs.Scan.{scan_start, scan_turn, scan_bad, scan_end, next_fits}
+use Rattle.std.proofs.Common.{arith}
+use Rattle.text.proofs.Scan.{scan_start, scan_next, scan_blank, scan_white, scan_solid, scan_bad, scan_end}
 use Rattle.text.proofs.trim.Goals as goal
 
--- the part that is lent is all that is left
-whole : (s : List ℕ) (at : ℕ) (r : Char) → r ≡ first_char (take (length s - at) (drop at s)) → first_char (drop at s) ≡ r
-whole s at r e = sym (e ∙ ap first_char (take_all (length s - at) (drop at s) (rw length-drop (omega arith))))
+pub loop-at-init : goal.loop-at-init
+loop-at-init c = scan_start c.args.s.now
 
-pub loop-t-init : goal.loop-t-init
-loop-t-init c = scan_start c.args.s.now
-
-pub returns-in_default : goal.returns-in_default
-returns-in_default c =
-    let s = c.args.s.now in
-    let l = c.loop-t in
-    scan_bad s l.t l.invariant c.loop-t-test.true (whole s l.t.at _ c.in_default.ensures)
+pub returns-in_err-point : goal.returns-in_err-point
+returns-in_err-point c =
+    let l = c.loop-at in
+    rw c.from_residual.ensures (scan_bad c.args.s.now l.start l.end l.at l.invariant c.loop-at-test.true c.in_err-point.ensures)
 
 pub overflow_add-at : goal.overflow_add-at
 overflow_add-at c =
-    let s = c.args.s.now in
-    let l = c.loop-t in
-    let p = c.in-Point in
-    omega (arith, next_fits s l.t p.c p.size l.invariant (whole s l.t.at _ p.ensures))
+    let l = c.loop-at in
+    let x = c.in_ok-point.field-0 in
+    omega (arith, scan_next c.args.s.now l.start l.end l.at x.point x.size l.invariant c.in_ok-point.ensures)
 
-pub loop-t-smaller : goal.loop-t-smaller
-loop-t-smaller c =
-    let s = c.args.s.now in
-    let l = c.loop-t in
-    let p = c.in-Point in
-    let k = scan_turn s l.t p.c p.size l.invariant (whole s l.t.at _ p.ensures) in
-    rw c.turn-t.ensures (omega (arith, k.1, k.0.fits))
+pub loop-at-smaller-then-not-is_white : goal.loop-at-smaller-then-not-is_white
+loop-at-smaller-then-not-is_white c =
+    let l = c.loop-at in
+    let x = c.in_ok-point.field-0 in
+    omega (arith, scan_next c.args.s.now l.start l.end l.at x.point x.size l.invariant c.in_ok-point.ensures)
 
-pub loop-t-preserved : goal.loop-t-preserved
-loop-t-preserved c =
-    let s = c.args.s.now in
-    let l = c.loop-t in
-    let p = c.in-Point in
-    rw c.turn-t.ensures (scan_turn s l.t p.c p.size l.invariant (whole s l.t.at _ p.ensures)).0
+pub loop-at-preserved-then-not-is_white : goal.loop-at-preserved-then-not-is_white
+loop-at-preserved-then-not-is_white c =
+    let l = c.loop-at in
+    let x = c.in_ok-point.field-0 in
+    scan_solid c.args.s.now l.start l.end l.at x.point x.size l.invariant c.in_ok-point.ensures cc
+
+pub loop-at-smaller-then-start-end : goal.loop-at-smaller-then-start-end
+loop-at-smaller-then-start-end c =
+    let l = c.loop-at in
+    let x = c.in_ok-point.field-0 in
+    omega (arith, scan_next c.args.s.now l.start l.end l.at x.point x.size l.invariant c.in_ok-point.ensures)
+
+pub loop-at-preserved-then-start-end : goal.loop-at-preserved-then-start-end
+loop-at-preserved-then-start-end c =
+    let l = c.loop-at in
+    let x = c.in_ok-point.field-0 in
+    scan_blank c.args.s.now l.start l.end l.at x.point x.size l.invariant c.in_ok-point.ensures (cc) c.if-start-end.true
+
+pub loop-at-smaller : goal.loop-at-smaller
+loop-at-smaller c =
+    let l = c.loop-at in
+    let x = c.in_ok-point.field-0 in
+    omega (arith, scan_next c.args.s.now l.start l.end l.at x.point x.size l.invariant c.in_ok-point.ensures)
+
+pub loop-at-preserved : goal.loop-at-preserved
+loop-at-preserved c =
+    let l = c.loop-at in
+    let x = c.in_ok-point.field-0 in
+    scan_white c.args.s.now l.start l.end l.at x.point x.size l.invariant c.in_ok-point.ensures (cc) c.if-start-end.false
 
 pub returns : goal.returns
 returns c =
-    let l = c.loop-t in
-    scan_end c.args.s.now l.t l.invariant c.loop-t-test.false
+    let l = c.loop-at in
+    scan_end c.args.s.now l.start l.end l.at l.invariant c.loop-at-test.false
