@@ -1,24 +1,13 @@
 -- Laws of the definitions of specs/.
-use mathlib.Core.Path.{◌≡◌, refl, ap, sym, ◌∙◌}
-use mathlib.Core.Bool.{Bool, true, false, cond}
-use mathlib.Core.List.{List, [], ◌∷◌}
-use Prim.Native.Nat.{ℕ, zero, suc, ◌+◌, ◌-◌, ◌*◌, ◌/◌, ◌%◌, ◌≤◌, ◌<◌}
-use native.Mathlib.Nat.{sub-zero, div-lt_iff_lt-mul, le-div_iff_mul-le}
-use native.Mathlib.Numerals.{add-one}
-use native.Mathlib.Omega.{arith}
-use borrow.Author.Tests.{ltb-false}
-use lib.Dec.{eqb, ltb, leb}
-use lib.ListN.{length, take, drop, get_or, replicate, drop_of_length-le, length-drop}
-use lib.Seq.{drop-cons, take-length}
+use Rattle.std.specs.List.{list_all}
+use Rattle.std.proofs.Common.{◌≡◌, ◌&&◌, refl, ap, sym, ◌∙◌, Bool, true, false, cond, List, [], ◌∷◌, ℕ, zero, suc, ◌+◌, ◌*◌, ◌/◌, ◌%◌, ◌≤◌, ◌<◌, eqb, ltb, leb, length, drop, get_or, replicate, Option, Some, None, add-one, arith, drop-cons}
+use native.Mathlib.Nat.{sub-zero}
+use Rattle.std.proofs.lemmas.Bool.Decides.{nat_tests}
+use borrow.Author.Tests.{ltb-false, lt-ltb, le-ltb, le-leb, lt-leb}
+use lib.ListN.{drop_of_length-le}
 use Rattle.arrays.specs.Arrays.{padded, put}
 use Rattle.arrays.proofs.Laws.{put_padded}
-use Rattle.replay_script.proofs.Laws.{never}
-use Rattle.replay_script.specs.Words.{part}
-use Rattle.replay_digits.specs.declared.Number.{Number}
-use Rattle.replay_digits.specs.declared.Number.TheVariants.{Given, NoNumber}
-use Rattle.replay_digits.specs.declared.Written.{Written}
-use Rattle.replay_digits.specs.declared.Written.TheVariants.{Hex, HexOrText}
-use Rattle.replay_digits.specs.Digits.{digit_of, number_from, number_in, all_digits, is_hex, pairs_of, is_text, is_bytes, as_bytes}
+use Rattle.replay_digits.specs.Digits.{digit_of, number_from, number_in, all_digits, is_hex, pairs_of}
 
 -- ---- tests
 
@@ -32,7 +21,7 @@ then_true false x e = e
 
 -- ---- numbers
 
-pub number_none : (base most : ℕ) (s : List ℕ) → length s ≡ 0 → number_in base most s ≡ NoNumber
+pub number_none : (base most : ℕ) (s : List ℕ) → length s ≡ 0 → number_in base most s ≡ None
 unfolding number_in
 number_none base most [] h = refl
 number_none base most (x ∷ xs) h = absurd (omega arith)
@@ -42,24 +31,38 @@ unfolding number_in
 number_some base most [] h = absurd (h refl)
 number_some base most (x ∷ xs) h = refl
 
-pub number_turn : (base most v : ℕ) (s : List ℕ) (i : ℕ) → i < length s
-    → number_from base most v (drop i s) ≡ cond (leb base (digit_of (get_or s i 0))) NoNumber (cond (ltb most (v * base + digit_of (get_or s i 0))) NoNumber (number_from base most (v * base + digit_of (get_or s i 0)) (drop (i + 1) s)))
+number_turn : (base most v : ℕ) (s : List ℕ) (i : ℕ) → i < length s
+    → number_from base most v (drop i s) ≡ cond (leb base (digit_of (get_or s i 0))) None (cond (ltb most (v * base + digit_of (get_or s i 0))) None (number_from base most (v * base + digit_of (get_or s i 0)) (drop (i + 1) s)))
 unfolding number_from
 number_turn base most v s i h = rw (add-one, drop-cons s i 0 h)
 
-pub number_end : (base most v : ℕ) (s : List ℕ) (i : ℕ) → length s ≤ i → number_from base most v (drop i s) ≡ Given v
+-- the number v and one digit more
+module _ (base most v : ℕ) (s : List ℕ) (i d : ℕ) (inv : number_in base most s ≡ number_from base most v (drop i s)) (h : i < length s) (e : d ≡ digit_of (get_or s i 0)) where
+  here : number_in base most s ≡ cond (leb base d) None (cond (ltb most (v * base + d)) None (number_from base most (v * base + d) (drop (i + 1) s)))
+  here = rw e (inv ∙ number_turn base most v s i h)
+
+  pub no_digit : base ≤ d → None ≡ number_in base most s
+  no_digit k = sym (here ∙ rw (le-leb _ _ k))
+
+  pub too_many : d < base → most < v * base + d → None ≡ number_in base most s
+  too_many k m = sym (here ∙ rw (lt-leb _ _ k, lt-ltb _ _ m))
+
+  pub one_more : d < base → (w : ℕ) → w ≡ v * base + d → w ≤ most → number_in base most s ≡ number_from base most w (drop (i + 1) s)
+  one_more k w q m = here ∙ rw (lt-leb _ _ k, ← q, le-ltb _ _ m)
+
+pub number_end : (base most v : ℕ) (s : List ℕ) (i : ℕ) → length s ≤ i → number_from base most v (drop i s) ≡ Some v
 unfolding number_from
 number_end base most v s i h = rw (drop_of_length-le s h)
 
 -- ---- bytes
 
-pub digits_turn : (s : List ℕ) (i : ℕ) → i < length s → all_digits (drop i s) ≡ cond (ltb 15 (digit_of (get_or s i 0))) false (all_digits (drop (i + 1) s))
-unfolding all_digits
-digits_turn s i h = rw (add-one, drop-cons s i 0 h)
+test_16 : (d : ℕ) (t : Bool) → cond (ltb 15 d) false t ≡ ltb d 16 && t
+test_16 d t = grind (arith, nat_tests)
 
-pub digits_end : (s : List ℕ) (i : ℕ) → length s ≤ i → all_digits (drop i s) ≡ true
+pub all_digits_is : (s : List ℕ) → all_digits s ≡ list_all (λ b. ltb (digit_of b) 16) s
 unfolding all_digits
-digits_end s i h = rw (drop_of_length-le s h)
+all_digits_is [] = refl
+all_digits_is (b ∷ bs) = rw (all_digits_is bs) (test_16 (digit_of b) (list_all (λ x. ltb (digit_of x) 16) bs))
 
 digit_at : (s : List ℕ) (k : ℕ) → all_digits s ≡ true → k < length s → digit_of (get_or s k 0) ≤ 15
 unfolding all_digits
@@ -90,56 +93,23 @@ pairs_at (a ∷ []) i h = absurd (omega arith)
 pairs_at (a ∷ b ∷ s) zero h = refl
 pairs_at (a ∷ b ∷ s) (suc i) h = rw (three_more i, two_more i) (pairs_at s i (omega arith))
 
--- ---- text
+-- ---- a number is at most `most`
 
-pub empty_text : (form : Written) (s : List ℕ) → length s ≡ 0 → false ≡ is_text form s
-empty_text Hex s h = refl
-empty_text HexOrText [] h = refl
-empty_text HexOrText (x ∷ xs) h = absurd (omega arith)
-
-pub text_first : (s : List ℕ) → eqb (get_or s 0 0) 39 ≡ is_text HexOrText s
-text_first [] = refl
-text_first (x ∷ xs) = refl
-
-pub text_long : (form : Written) (s : List ℕ) → is_text form s ≡ true → 1 ≤ length s
-text_long Hex s e = never e
-text_long HexOrText [] e = never e
-text_long HexOrText (x ∷ xs) e = omega arith
-
-pub text_part : (s : List ℕ) → part 1 (length s) s ≡ drop 1 s
-text_part s = ap (λ (n : ℕ). take n (drop 1 s)) (sym (length-drop 1 s)) ∙ take-length (drop 1 s)
-
-pub text_bytes : (form : Written) (s : List ℕ) → is_text form s ≡ true → as_bytes form s ≡ drop 1 s
-unfolding as_bytes
-text_bytes form s e = rw e
-
-pub hex_bytes : (form : Written) (s : List ℕ) → is_text form s ≡ false → (as_bytes form s ≡ pairs_of s) × (is_bytes form s ≡ is_hex s)
-unfolding as_bytes is_bytes
-hex_bytes form s e = (rw e, rw e)
-
--- ---- the test before a digit is taken
-
-pub over : (base most v d : ℕ) → 0 < base → d ≤ most → (most - d) / base < v → most < v * base + d
-over base most v d b h k = let l : most - d < v * base = (div-lt_iff_lt-mul b).0 k in omega arith
-
-pub under : (base most v d : ℕ) → 0 < base → d ≤ most → v ≤ (most - d) / base → v * base + d ≤ most
-under base most v d b h k = let l : v * base ≤ most - d = (le-div_iff_mul-le b).0 k in omega arith
-
-most_by : (t u : Bool) (most n : ℕ) (rest : Number) → (u ≡ false → rest ≡ Given n → n ≤ most) → cond t NoNumber (cond u NoNumber rest) ≡ Given n → n ≤ most
-most_by true u most n rest f e = let z : ◌≡◌ {A = ℕ} 0 1 = cc in absurd (omega arith)
-most_by false true most n rest f e = let z : ◌≡◌ {A = ℕ} 0 1 = cc in absurd (omega arith)
+most_by : (t u : Bool) (most n : ℕ) (rest : Option ℕ) → (u ≡ false → rest ≡ Some n → n ≤ most) → cond t None (cond u None rest) ≡ Some n → n ≤ most
+most_by true u most n rest f e = cc
+most_by false true most n rest f e = cc
 most_by false false most n rest f e = f refl e
 
-from_most : (base most v n : ℕ) (s : List ℕ) → v ≤ most → number_from base most v s ≡ Given n → n ≤ most
+from_most : (base most v n : ℕ) (s : List ℕ) → v ≤ most → number_from base most v s ≡ Some n → n ≤ most
 unfolding number_from
 from_most base most v n [] h e = let k : v ≡ n = cc in omega arith
 from_most base most v n (b ∷ bs) h e =
     most_by (leb base (digit_of b)) (ltb most (v * base + digit_of b)) most n _ (λ l. from_most base most (v * base + digit_of b) n bs (ltb-false _ _ l)) e
 
 -- a number that is read is at most `most`
-pub number_most : (base most n : ℕ) (s : List ℕ) → number_in base most s ≡ Given n → n ≤ most
+pub number_most : (base most n : ℕ) (s : List ℕ) → number_in base most s ≡ Some n → n ≤ most
 unfolding number_in
-number_most base most n [] e = let z : ◌≡◌ {A = ℕ} 0 1 = cc in absurd (omega arith)
+number_most base most n [] e = cc
 number_most base most n (b ∷ bs) e = from_most base most 0 n (b ∷ bs) (omega arith) e
 
 -- ---- bytes over zeros
@@ -147,5 +117,3 @@ number_most base most n (b ∷ bs) e = from_most base most 0 n (b ∷ bs) (omega
 pub put_zeros : (n : ℕ) (s : List ℕ) → put (replicate n 0) 0 s ≡ padded n 0 s
 unfolding padded
 put_zeros n s = ap (λ (m : ℕ). put (replicate m 0) 0 s) (sym (sub-zero n)) ∙ put_padded n 0 [] s
-
--- as many bytes as there are zeros

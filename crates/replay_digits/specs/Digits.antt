@@ -1,34 +1,24 @@
 -- What digits and text say: numbers and bytes.
-use Rattle.std.specs.Prelude.{Bool, true, false, cond, List, [], ◌∷◌, ℕ, ◌+◌, ◌*◌, ◌%◌, eqb, ltb, leb, length, drop}
+use Rattle.std.specs.Prelude.{Bool, true, false, cond, List, [], ◌∷◌, ℕ, ◌+◌, ◌*◌, ◌%◌, eqb, ltb, leb, length, drop, Option, Some, None, unwrap_or}
 use Rattle.arrays.specs.Arrays.{put}
 use Rattle.hexadecimal.specs.Hex.{value_of}
-use Rattle.hexadecimal.specs.declared.HexValue.{HexValue}
-use Rattle.hexadecimal.specs.declared.HexValue.TheVariants.{Digit, NotHex}
-use Rattle.replay_digits.specs.declared.Laid.{Laid}
-use Rattle.replay_digits.specs.declared.Laid.TheVariants.{To, NoBytes}
-use Rattle.replay_digits.specs.declared.Number.{Number}
-use Rattle.replay_digits.specs.declared.Number.TheVariants.{Given, NoNumber}
 use Rattle.replay_digits.specs.declared.Written.{Written}
 use Rattle.replay_digits.specs.declared.Written.TheVariants.{Hex, HexOrText}
 
 -- ---- numbers
 
 -- a digit's value; 16 stands for no digit
-abbrev pub value_or16 : HexValue → ℕ
-value_or16 (Digit d) = d
-value_or16 NotHex = 16
-
 unfoldable pub digit_of : ℕ → ℕ
-digit_of b = value_or16 (value_of b)
+digit_of b = unwrap_or (value_of b) 16
 
 -- digits of a base, which is at most 16, behind the number v
-unfoldable pub number_from : ℕ → ℕ → ℕ → List ℕ → Number
-number_from base most v [] = Given v
-number_from base most v (b ∷ bs) = cond (leb base (digit_of b)) NoNumber (cond (ltb most (v * base + digit_of b)) NoNumber (number_from base most (v * base + digit_of b) bs))
+unfoldable pub number_from : ℕ → ℕ → ℕ → List ℕ → Option ℕ
+number_from base most v [] = Some v
+number_from base most v (b ∷ bs) = cond (leb base (digit_of b)) None (cond (ltb most (v * base + digit_of b)) None (number_from base most (v * base + digit_of b) bs))
 
 -- one digit of the base or more, and nothing else; the number is at most `most`
-unfoldable pub number_in : ℕ → ℕ → List ℕ → Number
-number_in base most [] = NoNumber
+unfoldable pub number_in : ℕ → ℕ → List ℕ → Option ℕ
+number_in base most [] = None
 number_in base most (b ∷ bs) = number_from base most 0 (b ∷ bs)
 
 -- ---- bytes
@@ -66,8 +56,8 @@ unfoldable pub fits_in : Written → List ℕ → ℕ → ℕ → Bool
 fits_in form s at room = cond (is_bytes form s) (cond (ltb room (at + length (as_bytes form s))) false true) false
 
 -- the place after the bytes
-unfoldable pub laid_to : Written → List ℕ → ℕ → ℕ → Laid
-laid_to form s at room = cond (fits_in form s at room) (To (at + length (as_bytes form s))) NoBytes
+unfoldable pub laid_to : Written → List ℕ → ℕ → ℕ → Option ℕ
+laid_to form s at room = cond (fits_in form s at room) (Some (at + length (as_bytes form s))) None
 
 -- the memory with the bytes laid down in it
 unfoldable pub lay_bytes : Written → List ℕ → ℕ → List ℕ → List ℕ

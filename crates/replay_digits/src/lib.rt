@@ -5,26 +5,11 @@ ghost use Rattle.std.specs.Prelude.{◌≡◌, true, ◌+◌, ◌/◌, ◌<◌, 
 ghost use Rattle.arrays.specs.Arrays.{put};
 ghost use Rattle.replay_digits.specs.Digits.{digit_of, number_in, is_hex, pairs_of, is_text, is_bytes, as_bytes, laid_to, lay_bytes};
 
-use hexadecimal::HexValue;
-
-#[derive(Clone, Copy)]
-pub enum Number {
-    Given(u64),
-    NoNumber,
-}
-
 // How bytes may be written: as pairs of hexadecimal digits alone, or as text too.
-#[derive(Clone, Copy)]
+#[derive(Clone, Copy, PartialEq, Eq)]
 pub enum Written {
     Hex,
     HexOrText,
-}
-
-// The place after the bytes that were laid down.
-#[derive(Clone, Copy)]
-pub enum Laid {
-    To(usize),
-    NoBytes,
 }
 
 // The value of a digit, up to 15; 16 if it is none.
@@ -32,64 +17,37 @@ pub enum Laid {
 fn digit(b: u8) -> u8
     ensures { result ≡ digit_of b }
 {
-    let v = hexadecimal::hex_value(b);
-    match v {
-        HexValue::Digit(d) => d,
-        HexValue::NotHex => 16,
-    }
-}
-
-fn wide(x: u8) -> u64
-    ensures { result ≡ x }
-{
-    x as u64
+    hexadecimal::hex_value(b).unwrap_or(16)
 }
 
 // The number that digits of this base, at most 16, make; none above `most`.
-pub fn number_in(s: &[u8], base: u64, most: u64) -> Number
+pub fn number_in(s: &[u8], base: u64, most: u64) -> Option<u64>
     requires { 0 < base }
     ensures { result ≡ number_in base most s.now }
 {
-    if s.len() == 0 {
-        return Number::NoNumber;
+    if s.is_empty() {
+        return None;
     }
     let mut v: u64 = 0;
-    let mut i = 0;
-    while i < s.len() {
-        let d = wide(digit(s[i]));
+    for b in s {
+        let d = u64::from(digit(*b));
         if base <= d {
-            return Number::NoNumber;
+            return None;
         }
-        if most < d {
-            return Number::NoNumber;
+        v = v.checked_mul(base)?.checked_add(d)?;
+        if most < v {
+            return None;
         }
-        let room = (most - d) / base;
-        if room < v {
-            return Number::NoNumber;
-        }
-        v = v * base + d;
-        i += 1;
     }
-    Number::Given(v)
+    Some(v)
 }
 
 // Whether these are hexadecimal digits in pairs.
+#[tactic(auto, unfolding(crate::specs::Digits::is_hex))]
 pub fn is_hex(s: &[u8]) -> bool
     ensures { result ≡ is_hex s.now }
 {
-    let odd = s.len() % 2;
-    if odd == 1 {
-        return false;
-    }
-    let mut i = 0;
-    while i < s.len() {
-        let d = digit(s[i]);
-        if 15 < d {
-            return false;
-        }
-        i += 1;
-    }
-    true
+    s.len() % 2 == 0 && s.iter().all(|b| digit(*b) < 16)
 }
 
 // Writes the bytes that the pairs make over `out` from `at` on.
@@ -97,14 +55,10 @@ pub fn put_pairs(s: &[u8], out: &mut [u8], at: usize)
     requires { (is_hex s.now ≡ true) × (at + length s.now / 2 ≤ length out.old) }
     ensures { out.new ≡ put out.old at (pairs_of s.now) }
 {
-    let n = s.len() / 2;
-    let mut i = 0;
-    while i < n {
-        let k = 2 * i;
-        let high = digit(s[k]);
-        let low = digit(s[k + 1]);
+    for i in 0..s.len() / 2 {
+        let high = digit(s[2 * i]);
+        let low = digit(s[2 * i + 1]);
         out[at + i] = high * 16 + low;
-        i += 1;
     }
 }
 
@@ -112,61 +66,52 @@ pub fn put_pairs(s: &[u8], out: &mut [u8], at: usize)
 fn is_text(s: &[u8], form: Written) -> bool
     ensures { result ≡ is_text form s.now }
 {
-    if s.len() == 0 {
-        return false;
-    }
-    match form {
-        Written::Hex => false,
-        Written::HexOrText => s[0] == b'\'',
-    }
+    form == Written::HexOrText && s.starts_with(b"'")
 }
 
 // Whether these are bytes: such a text, or hexadecimal digits in pairs.
+#[tactic(auto, unfolding(crate::specs::Digits::is_bytes))]
 pub fn is_bytes(s: &[u8], form: Written) -> bool
     ensures { result ≡ is_bytes form s.now }
 {
-    if is_text(s, form) {
-        return true;
-    }
-    is_hex(s)
+    is_text(s, form) || is_hex(s)
 }
 
 // How many bytes they are.
+#[tactic(auto, using(crate::proofs::Laws::pairs_length), unfolding(crate::specs::Digits::as_bytes))]
 pub fn byte_count(s: &[u8], form: Written) -> usize
     ensures { result ≡ length (as_bytes form s.now) }
 {
     if is_text(s, form) {
-        return s.len() - 1;
+        s.len() - 1
+    } else {
+        s.len() / 2
     }
-    s.len() / 2
 }
 
 // Writes them over `out` from `at` on.
+#[tactic(auto, using(crate::proofs::Laws::pairs_length), unfolding(crate::specs::Digits::as_bytes, crate::specs::Digits::is_bytes))]
 pub fn put_bytes(s: &[u8], form: Written, out: &mut [u8], at: usize)
     requires { (is_bytes form s.now ≡ true) × (at + length (as_bytes form s.now) ≤ length out.old) }
     ensures { out.new ≡ put out.old at (as_bytes form s.now) }
 {
     if is_text(s, form) {
         arrays::put(out, at, &s[1..]);
-        return;
+    } else {
+        put_pairs(s, out, at);
     }
-    put_pairs(s, out, at);
 }
 
-// The same where they are bytes and fit; otherwise nothing is written.
-pub fn bytes(s: &[u8], form: Written, out: &mut [u8], at: usize) -> Laid
-    ensures { (result ≡ laid_to form s.now at (length out.old)) × (out.new ≡ lay_bytes form s.now at out.old) }
+// The same where they are bytes and fit, and the place after them; otherwise nothing is written.
+#[tactic(auto, unfolding(crate::specs::Digits::fits_in, crate::specs::Digits::laid_to, crate::specs::Digits::lay_bytes))]
+pub fn bytes(s: &[u8], form: Written, out: &mut [u8], at: usize) -> Option<usize>
+    ensures place { result ≡ laid_to form s.now at (length out.old) }
+    ensures written { out.new ≡ lay_bytes form s.now at out.old }
 {
-    if is_bytes(s, form) {
-        let n = byte_count(s, form);
-        if out.len() < at {
-            return Laid::NoBytes;
-        }
-        if out.len() - at < n {
-            return Laid::NoBytes;
-        }
-        put_bytes(s, form, out, at);
-        return Laid::To(at + n);
+    let end = at.checked_add(byte_count(s, form))?;
+    if out.len() < end || !is_bytes(s, form) {
+        return None;
     }
-    Laid::NoBytes
+    put_bytes(s, form, out, at);
+    Some(end)
 }

@@ -1,32 +1,14 @@
-use mathlib.Core.Path.{sym, ◌∙◌}
-use native.Mathlib.Omega.{arith}
-use borrow.Author.Tests.{eq-eqb, ne_eqb, lt-ltb, le-ltb}
-use Rattle.replay_digits.specs.Digits.{is_hex}
-use Rattle.replay_digits.proofs.Laws.{digits_turn, digits_end}
+use Rattle.std.proofs.Common.{◌≡◌, ◌∙◌, sym, ltb, rules, tests}
+use Rattle.std.specs.List.{list_all}
+use Rattle.std.proofs.lemmas.Iterator.{YieldsList-from_slice}
+use Rattle.std.proofs.lemmas.Iterator.Search.{all_from_yields_List}
+use Rattle.replay_digits.specs.Digits.{digit_of, is_hex}
+use Rattle.replay_digits.proofs.Laws.{all_digits_is}
 use Rattle.replay_digits.proofs.is_hex.Goals as goal
 
-pub returns-then-odd-eq1 : goal.returns-then-odd-eq1
+pub returns-then-s-eq0 : goal.returns-then-s-eq0
 unfolding is_hex
-returns-then-odd-eq1 c = rw (eq-eqb _ _ c.if-odd-eq1.true)
-
-pub loop-i-init : goal.loop-i-init
-unfolding is_hex
-loop-i-init c = (omega arith, rw (ne_eqb _ _ c.if-odd-eq1.false))
-
-pub returns-then-d-gt15 : goal.returns-then-d-gt15
-unfolding is_hex
-returns-then-d-gt15 c =
+returns-then-s-eq0 c =
     let s = c.args.s.now in
-    let l = c.loop-i in
-    rw (l.invariant.1, digits_turn s l.i (omega arith), ← c.digit-d.ensures, lt-ltb _ _ c.if-d-gt15.true)
-
-pub loop-i-preserved : goal.loop-i-preserved
-unfolding is_hex
-loop-i-preserved c =
-    let s = c.args.s.now in
-    let l = c.loop-i in
-    (omega arith, l.invariant.1 ∙ rw (digits_turn s l.i (omega arith), ← c.digit-d.ensures, le-ltb _ _ c.if-d-gt15.false))
-
-pub returns : goal.returns
-unfolding is_hex
-returns c = let s = c.args.s.now in sym (c.loop-i.invariant.1 ∙ digits_end s c.loop-i.i (omega arith))
+    let e : c.all.result ≡ list_all (λ b. ltb (digit_of b) 16) s = all_from_yields_List (λ b. ltb (digit_of b) 16) _ _ _ c.all.ensures.ran (YieldsList-from_slice s cc) (λ x b q k. search (rules, tests)) in
+    rw c.if-s-eq0.true (e ∙ sym (all_digits_is s))
