@@ -4,26 +4,19 @@
 ghost use Rattle.std.specs.Prelude.{◌≡◌};
 ghost use Rattle.session_times.specs.Times.{saturating_add, seconds_to, next_number};
 
+#[tactic(auto, unfolding(crate::specs::Times::saturating_add))]
 pub fn saturating_add(clock: u64, span: u64) -> u64
     ensures { result ≡ saturating_add clock span }
 {
-    let sum = std::num::wrapping_add_u64(clock, span);
-    if sum < clock {
-        return u64::MAX;
-    }
-    sum
+    clock.saturating_add(span)
 }
 
 // Rounded up, 0 if passed, modulo 2^32.
+#[tactic(auto, unfolding(crate::specs::Times::seconds_to))]
 pub fn seconds_to(until: u64, clock: u64) -> u32
     ensures { result ≡ seconds_to until clock }
 {
-    if until <= clock {
-        return 0;
-    }
-    let left = until - clock;
-    let whole = (left - 1) / 1_000 + 1;
-    (whole % 0x1_0000_0000) as u32
+    (until.saturating_sub(clock).div_ceil(1_000) % 0x1_0000_0000) as u32
 }
 
 // The wrapping sum, zero skipped.
@@ -31,6 +24,5 @@ pub fn seconds_to(until: u64, clock: u64) -> u32
 pub fn next_number(n: u32) -> u32
     ensures { result ≡ next_number n }
 {
-    let next = std::num::wrapping_add_u32(n, 1);
-    if next == 0 { 1 } else { next }
+    n.wrapping_add(1).max(1)
 }
