@@ -1,46 +1,23 @@
 -- Laws of the definitions of specs/.
 use mathlib.Core.Path.{◌≡◌, refl, ap, sym, ◌∙◌}
 use mathlib.Core.Bool.{Bool, true, false, cond}
-use mathlib.Core.List.{List, [], ◌∷◌}
+use mathlib.Core.List.{List}
 use Prim.Native.Nat.{ℕ, zero, suc, ◌+◌, ◌*◌, ◌-◌, ◌/◌, ◌≤◌, ◌<◌}
 use native.Mathlib.Numerals.{add-one}
 use native.Mathlib.Omega.{arith}
 use borrow.Author.Tests.{ltb-true, ltb-false}
-use lib.Dec.{eqb, ltb}
-use lib.ListN.{length, drop, get_or, set, length-append, length-drop, drop_of_length-le}
-use lib.Seq.{drop-cons}
+use lib.Dec.{ltb}
+use lib.ListN.{length, set, length-append}
 use Rattle.arrays.specs.Arrays.{padded}
 use Rattle.arrays.proofs.Laws.{padded_push}
 use Rattle.hexadecimal.specs.Hex.{value_of}
-use Rattle.hexadecimal.specs.declared.HexValue.TheVariants.{Digit, NotHex}
-use Rattle.text_cases.specs.Cases.{line_length, worth, nibble_of, byte_at, pairs_in, bytes_of}
-
--- ---- lines
-
-pub line_turn : (s : List ℕ) (i : ℕ) → i < length s → line_length (drop i s) ≡ cond (eqb (get_or s i 0) 10) 0 (suc (line_length (drop (i + 1) s)))
-unfolding line_length
-line_turn s i h = rw (add-one, drop-cons s i 0 h)
-
-pub line_end : (s : List ℕ) (i : ℕ) → length s ≤ i → line_length (drop i s) ≡ 0
-unfolding line_length
-line_end s i h = rw (drop_of_length-le s h)
-
-length_by : (t : Bool) (n m : ℕ) → n ≤ m → cond t 0 (suc n) ≤ suc m
-length_by true n m h = omega arith
-length_by false n m h = omega arith
-
-within : (s : List ℕ) → line_length s ≤ length s
-unfolding line_length
-within [] = omega arith
-within (b ∷ bs) = length_by (eqb b 10) (line_length bs) (length bs) (within bs)
-
-pub ends_within : (s : List ℕ) (at e : ℕ) → e ≡ at + line_length (drop at s) → at ≤ length s → e ≤ length s
-ends_within s at e q h = omega (arith, within (drop at s), length-drop at s)
+use Rattle.std.specs.Prelude.{Some, None, unwrap_or}
+use Rattle.text_cases.specs.Cases.{nibble_of, byte_at, pairs_in, bytes_of}
 
 -- ---- digits
 
 small_by : (b : ℕ) (t₁ t₂ t₃ t₄ t₅ t₆ : Bool) → ltb b 48 ≡ t₁ → ltb b 58 ≡ t₂ → ltb b 65 ≡ t₃ → ltb b 71 ≡ t₄ → ltb b 97 ≡ t₅ → ltb b 103 ≡ t₆
-    → worth (cond t₁ NotHex (cond t₂ (Digit (b - 48)) (cond t₃ NotHex (cond t₄ (Digit (b - 55)) (cond t₅ NotHex (cond t₆ (Digit (b - 87)) NotHex)))))) < 16
+    → unwrap_or (cond t₁ None (cond t₂ (Some (b - 48)) (cond t₃ None (cond t₄ (Some (b - 55)) (cond t₅ None (cond t₆ (Some (b - 87)) None)))))) 0 < 16
 small_by b true t₂ t₃ t₄ t₅ t₆ e₁ e₂ e₃ e₄ e₅ e₆ = omega arith
 small_by b false true t₃ t₄ t₅ t₆ e₁ e₂ e₃ e₄ e₅ e₆ = omega (arith, ltb-true b 58 e₂)
 small_by b false false true t₄ t₅ t₆ e₁ e₂ e₃ e₄ e₅ e₆ = omega arith

@@ -4,15 +4,13 @@
 // failed, and the file `stdout` has what they write.
 #![tactic(auto)]
 
-ghost use Rattle.std.specs.Prelude.{◌≡◌, ◌+◌, length, drop};
+ghost use Rattle.std.specs.Prelude.{◌≡◌, length};
 ghost use Rattle.arrays.specs.Arrays.{padded};
-ghost use Rattle.text_cases.specs.Cases.{line_length, nibble_of, pairs_in, bytes_of, verdict_of};
+ghost use Rattle.text_cases.specs.Cases.{nibble_of, pairs_in, bytes_of, verdict_of};
 
-use hexadecimal::HexValue;
-use input::Input;
 use std::io;
 
-#[derive(Clone, Copy)]
+#[derive(Clone, Copy, PartialEq, Eq)]
 enum Verdict {
     NoText,
     Wrong,
@@ -20,16 +18,17 @@ enum Verdict {
 }
 
 // What a byte string is for the code 1234.
+#[tactic(auto, unfolding(crate::specs::Cases::verdict_of))]
 fn verdict_of(s: &[u8]) -> Verdict
     ensures { result ≡ verdict_of s.now }
 {
-    if text::is_text(s) {
-        if text::is_right(*b"123400000", 4, s) {
-            return Verdict::Right;
-        }
-        return Verdict::Wrong;
+    if !text::is_text(s) {
+        Verdict::NoText
+    } else if text::is_right(*b"123400000", 4, s) {
+        Verdict::Right
+    } else {
+        Verdict::Wrong
     }
-    Verdict::NoText
 }
 
 fn print_verdict(out: &impl Print, v: Verdict) -> io::Result<()> {
@@ -45,40 +44,30 @@ fn print_verdict(out: &impl Print, v: Verdict) -> io::Result<()> {
 fn nibble(b: u8) -> u8
     ensures { result ≡ nibble_of b }
 {
-    let v = hexadecimal::hex_value(b);
-    match v {
-        HexValue::Digit(d) => d,
-        HexValue::NotHex => 0,
-    }
+    hexadecimal::hex_value(b).unwrap_or(0)
 }
 
 // How many pairs of digits a line of `n` bytes has, at most 32.
+#[tactic(auto, unfolding(crate::specs::Cases::pairs_in))]
 fn pairs(n: usize) -> usize
     ensures { result ≡ pairs_in n }
 {
-    if n / 2 < 32 {
-        return n / 2;
-    }
-    32
+    (n / 2).min(32)
 }
 
 // The bytes that the pairs of a line say, and zeros past them.
+#[tactic(auto, using(crate::proofs::Laws::pairs_fit, crate::proofs::Laws::nibble_small))]
 fn bytes_of(line: &[u8]) -> [u8; 32]
     ensures { result ≡ padded 32 0 (bytes_of line.now (pairs_in (length line.now))) }
 {
-    let mut bytes = [0u8; 32];
-    let n = pairs(line.len());
-    let mut i = 0;
-    while i < n {
-        let k = 2 * i;
-        let high = nibble(line[k]);
-        let low = nibble(line[k + 1]);
-        bytes[i] = high * 16 + low;
-        i += 1;
+    let mut bytes = [0; 32];
+    for i in 0..pairs(line.len()) {
+        bytes[i] = nibble(line[2 * i]) * 16 + nibble(line[2 * i + 1]);
     }
     bytes
 }
 
+#[tactic(auto, using(crate::proofs::Laws::pairs_fit))]
 fn case(out: &impl Print, line: &[u8]) -> io::Result<()> {
     let bytes = bytes_of(line);
     let n = pairs(line.len());
@@ -86,34 +75,15 @@ fn case(out: &impl Print, line: &[u8]) -> io::Result<()> {
     print_verdict(out, verdict_of(&bytes[..n]))
 }
 
-// Where the line that starts at `at` ends.
-fn line_end(s: &[u8], at: usize) -> usize
-    ensures { result ≡ at + line_length (drop at s.now) }
-{
-    let mut e = at;
-    while e < s.len() {
-        if s[e] == 10 {
-            return e;
-        }
-        e += 1;
-    }
-    e
-}
-
 fn cases(out: &impl Print, s: &[u8]) -> io::Result<()> {
-    let mut at = 0;
-    while at < s.len() {
-        let e = line_end(s, at);
-        case(out, &s[at..e])?;
-        at = e + 1;
+    for line in s.split_inclusive(|b| *b == b'\n') {
+        case(out, line.strip_suffix(b"\n").unwrap_or(line))?;
     }
     Ok(())
 }
 
 fn main(rt: HostRuntime) -> io::Result<()> {
     let mut buf = [0u8; 4096];
-    match input::read_input(&mut rt.stdin(), &mut buf) {
-        Input::Bytes(n) => cases(&rt, &buf[..n]),
-        Input::Failed(e) => Err(e),
-    }
+    let n = input::read_input(&mut rt.stdin(), &mut buf)?;
+    cases(&rt, &buf[..n])
 }
