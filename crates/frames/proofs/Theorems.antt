@@ -1,9 +1,6 @@
 -- What the tests of specs/ mean: each is true exactly if the things are equal.
-use mathlib.Core.Path.{◌≡◌, refl, ap}
-use mathlib.Core.Bool.{true, false≢true}
-use mathlib.Core.Logic.{◌↔◌}
-use Prim.Native.Nat.{ℕ}
-use borrow.Author.Tests.{eq-eqb, eqb-true}
+use mathlib.Core.Bool.{false≢true}
+use Rattle.std.proofs.Common.{◌≡◌, refl, ap, true, ◌↔◌, ℕ, eq-eqb, eqb-true}
 use Rattle.arrays.specs.Arrays.{same_bytes}
 use Rattle.arrays.proofs.Laws.{both, same_bytes_is}
 use Rattle.frames.specs.declared.Id.{Id}

@@ -6,14 +6,14 @@ ghost use Rattle.arrays.specs.Arrays.{same_bytes};
 ghost use Rattle.frames.specs.Frames.{raw_of, can_id_in_range, same_id, is_entry, bus_exists, is_command};
 
 // A CAN identifier, 11 bits wide or 29. The number is as lent, in range or not.
-#[derive(Clone, Copy)]
+#[derive(Clone, Copy, PartialEq, Eq)]
 pub enum Id {
     Standard(u32),
     Extended(u32),
 }
 
 // A frame received from a bus or to be sent on one. `bus` and `dlc` are as lent, with any value.
-#[derive(Clone, Copy)]
+#[derive(Clone, Copy, PartialEq, Eq)]
 pub struct CanFrame {
     pub bus: u8,
     pub id: Id,
@@ -22,7 +22,7 @@ pub struct CanFrame {
 }
 
 // A frame that an identity probe may send.
-#[derive(Clone, Copy)]
+#[derive(Clone, Copy, PartialEq, Eq)]
 pub struct ProbeFrame {
     pub id: Id,
     pub data: [u8; 8],
@@ -30,7 +30,7 @@ pub struct ProbeFrame {
 
 // What a frame to send belongs to: the platform's own traffic, or the command of a phone.
 // That phone's id is lent as a slice beside the class, since an enum holds no reference.
-#[derive(Clone, Copy)]
+#[derive(Clone, Copy, PartialEq, Eq)]
 pub enum TxClass {
     Platform,
     Command,
@@ -44,8 +44,7 @@ pub fn id_raw(id: Id) -> u32
     ensures { result ≡ raw_of id }
 {
     match id {
-        Id::Standard(n) => n,
-        Id::Extended(n) => n,
+        Id::Standard(n) | Id::Extended(n) => n,
     }
 }
 
@@ -63,38 +62,23 @@ pub fn can_id_in_range(id: Id) -> bool
 pub fn same_id(a: Id, b: Id) -> bool
     ensures { result ≡ same_id a b }
 {
-    match a {
-        Id::Standard(m) => match b {
-            Id::Standard(n) => m == n,
-            Id::Extended(_) => false,
-        },
-        Id::Extended(m) => match b {
-            Id::Standard(_) => false,
-            Id::Extended(n) => m == n,
-        },
-    }
+    a == b
 }
 
 // Whether all eight data bytes are equal.
-pub fn same_data(a: [u8; 8], b: [u8; 8]) -> bool
-    ensures { result ≡ same_bytes a b }
+#[tactic(auto, using(arrays::proofs::Laws::same_is_pointwise))]
+pub fn same_data(x: [u8; 8], y: [u8; 8]) -> bool
+    ensures { result ≡ same_bytes x y }
 {
-    arrays::same_bytes(&a, &b)
+    x == y
 }
 
 // Whether `frame` is what `entry` lets through. Its bus and its dlc are not looked at.
+#[tactic(auto, using(arrays::proofs::Laws::same_is_pointwise), unfolding(crate::specs::Frames::is_entry))]
 pub fn is_entry(entry: ProbeFrame, frame: CanFrame) -> bool
     ensures { result ≡ is_entry entry frame }
 {
-    let i = entry.id;
-    let j = frame.id;
-    if same_id(i, j) {
-        let a = entry.data;
-        let b = frame.data;
-        same_data(a, b)
-    } else {
-        false
-    }
+    entry.id == frame.id && entry.data == frame.data
 }
 
 // Whether a board has this bus.
@@ -108,8 +92,5 @@ pub fn bus_exists(bus: u8) -> bool
 pub fn is_command(class: TxClass) -> bool
     ensures { result ≡ is_command class }
 {
-    match class {
-        TxClass::Platform => false,
-        TxClass::Command => true,
-    }
+    matches!(class, TxClass::Command)
 }

@@ -1,8 +1,5 @@
 -- Two frames are the same exactly if they are equal.
-use mathlib.Core.Path.{◌≡◌, refl}
-use mathlib.Core.Bool.{true}
-use mathlib.Core.Logic.{◌↔◌}
-use borrow.Author.Tests.{eq-eqb, eqb-true}
+use Rattle.std.proofs.Common.{◌≡◌, refl, true, ◌↔◌, eq-eqb, eqb-true}
 use Rattle.arrays.proofs.Laws.{both, same_refl, same_bytes_is}
 use Rattle.frames.proofs.Theorems.{same_id_is}
 use Rattle.frames.specs.declared.CanFrame.{CanFrame}
