@@ -2,34 +2,42 @@
 use mathlib.Core.Path.{◌≡◌, refl, ap, sym, ◌∙◌}
 use mathlib.Core.Bool.{Bool, true, false}
 use mathlib.Core.List.{List, [], ◌∷◌, ◌++◌}
-use Prim.Native.Nat.{ℕ, ◌+◌, ◌≤◌, ◌<◌}
+use Prim.Native.Nat.{ℕ, ◌+◌, ◌-◌, ◌≤◌, ◌<◌}
 use native.Mathlib.Omega.{arith}
 use borrow.Author.Tests.{lt-ltb, le-ltb, ltb-false}
 use lib.Dec.{ltb}
-use lib.ListN.{length, drop, get_or, length-append}
+use lib.ListN.{length, take, drop, get_or, length-append}
 use Rattle.arrays.specs.Arrays.{put}
 use Rattle.phone_fields.proofs.Writing.{put_put}
-use Rattle.saved_record.specs.declared.Decoded.{Decoded}
-use Rattle.saved_record.specs.declared.RecordVerdict.{RecordVerdict}
-use Rattle.saved_record.specs.declared.RecordVerdict.TheVariants as Verdict
-use Rattle.saved_record.specs.declared.RecordVerdict.TheVariants.{Restored}
-use Rattle.saved_record.specs.SavedRecord.{CarIds, car_part, car_parts, encoded, over, Reading, malformed, car_twice, too_large, ok, decoded, record_number}
+use Rattle.saved_record.specs.SavedRecord.{CarIds, car_part, car_parts, encoded, over, Reading, malformed, car_twice, too_large, ok, decoded}
+use Rattle.saved_record.specs.declared.Store.{Store}
+use Rattle.saved_record.specs.declared.RecordError.{RecordError}
 use Rattle.saved_record.specs.Store.{store_of, restored}
-use Rattle.saved_record.specs.Store as Store
+use Rattle.std.specs.Prelude.{Ok, Err}
+use Rattle.saved_record.specs.declared.RecordError.TheVariants as Record
 use Rattle.saved_record.proofs.Parts.{Digests, part_length}
 use Rattle.saved_record.proofs.RoundTrip.{Versions, one, two, accepted_well_formed, written_back, version_one_lem, at_most_4358}
-use Rattle.converter.specs.declared.Conversion.{Conversion}
-use Rattle.converter.specs.declared.Conversion.TheVariants.{Done, Malformed, CarTwice, TooLarge, ManyCars}
-use Rattle.converter.specs.declared.Converted.{Converted}
-use Rattle.converter.specs.Convert.{encoded_as, Outcome, outcome_of, no_room, refusal, laid_down, many_cars, converted_from, converted, conversion_number}
+use Rattle.converter.specs.declared.ConversionError.TheVariants.{ManyCars, ShortOutput}
+use Rattle.converter.specs.Convert.{conversion_error, encoded_as, Outcome, outcome_of, refusal, laid_down, many_cars, converted_from, converted}
 use Rattle.converter.specs.Steps.{Accepted}
-use Rattle.converter.specs.Theorems.{Converts}
+use Rattle.decode_record.proofs.Reading.{tail_part}
 use Rattle.converter.proofs.Meaning.{means_converts, every}
 
 -- ---- a head, and a body right after it
 
-pub put_both : (out head body : List ℕ) → length head ≤ length out → put (put out 0 head) (length head) body ≡ put out 0 (head ++ body)
+put_both : (out head body : List ℕ) → length head ≤ length out → put (put out 0 head) (length head) body ≡ put out 0 (head ++ body)
 put_both out head body h = let z : 0 + length head ≡ length head = omega arith in rw z at (put_put out 0 head body (omega arith))
+
+pub too_long : (out head body : List ℕ) → length out < length head + length body → laid_down (head ++ body) out ≡ outcome_of (Err (ShortOutput (length head + length body))) out
+unfolding laid_down
+too_long out head body h = let a = length-append head body in rw (lt-ltb (length out) (length (head ++ body)) (omega arith), a)
+
+pub laid : (out head body : List ℕ) → length head + length body ≤ length out
+    → laid_down (head ++ body) out ≡ outcome_of (Ok (length head + length body)) (put (put out 0 head) (length head) body)
+unfolding laid_down
+laid out head body h =
+    let a = length-append head body in
+    rw (le-ltb (length out) (length (head ++ body)) (omega arith), a, put_both out head body (omega arith))
 
 -- ---- how long it is
 
@@ -70,8 +78,17 @@ sizes_of r cs (two m n w) d o =
     let v = first r 2 (length cs ∷ car_parts cs) w in
     record { long = omega arith; short = omega arith; longer = λ h. omega arith }
 
-pub sizes : (r : List ℕ) (n : ℕ) → Accepted r n → Sizes r
-sizes r n a = let w = accepted_well_formed r a.0 a.1 in sizes_of r a.0 w.0.written w.0.digests w.2
+record Said (r : List ℕ) (n : ℕ) : Type 0 where
+  cars : List CarIds
+  says : decoded r ≡ ok cars
+  count : n ≡ length cars
+
+said_of : (r : List ℕ) (n : ℕ) → Accepted r n → Said r n
+unfolding Accepted
+said_of r n a = record { cars = a.0; says = a.1; count = a.2 }
+
+sizes : (r : List ℕ) (n : ℕ) → Said r n → Sizes r
+sizes r n a = let w = accepted_well_formed r a.cars a.says in sizes_of r a.cars w.0.written w.0.digests w.2
 
 -- ---- the body under the head of either version
 
@@ -88,87 +105,94 @@ unfolding encoded car_parts
 body [] = refl
 body (c ∷ cs) = refl
 
+-- what stands in r from i on
+abbrev from : ℕ → List ℕ → List ℕ
+from i r = take (length r - i) (drop i r)
+
 module _ (r : List ℕ) (n : ℕ) (a : Accepted r n) where
-  pub one_as_two : get_or r 0 0 ≡ 1 → Converts r true (2 ∷ 1 ∷ drop 1 r)
+  said : Said r n
+  said = said_of r n a
+
+  pub record_long : 2 ≤ length r
+  record_long = (sizes r n said).long
+
+  pub record_short : length r ≤ 4358
+  record_short = (sizes r n said).short
+
+  pub record_longer : get_or r 0 0 ≡ 1 → 1 + length r ≤ 4358
+  record_longer = (sizes r n said).longer
+
+  pub one_as_two : get_or r 0 0 ≡ 1 → (out : List ℕ) → converted r true out ≡ laid_down (2 ∷ 1 ∷ from 1 r) out
   unfolding many_cars encoded_as
   one_as_two h =
-      let v = version_one_lem r a.0 a.1 h in
-      means_converts r true (2 ∷ 1 ∷ drop 1 r) a.0 (record { says = a.1; held = refl; written = rw v.1 v.2 })
+      let v = version_one_lem r said.cars said.says h in
+      rw (tail_part r 1) (means_converts r true (2 ∷ 1 ∷ drop 1 r) said.cars (record { says = said.says; held = refl; written = v.2 ∙ ap (λ (s : List ℕ). 2 ∷ 1 ∷ drop 1 s) (sym v.1) }))
 
-  pub two_as_two : (get_or r 0 0 ≡ 1 → ⊥) → Converts r true (2 ∷ drop 1 r)
+  pub two_as_two : (get_or r 0 0 ≡ 1 → ⊥) → (out : List ℕ) → converted r true out ≡ laid_down (2 ∷ from 1 r) out
   unfolding many_cars encoded_as
   two_as_two h =
-      let v = second r a.0 (accepted_well_formed r a.0 a.1).0.written h in
-      let l = (sizes r n a).long in
-      means_converts r true (2 ∷ drop 1 r) a.0 (record { says = a.1; held = refl; written = written_back r a.0 a.1 v ∙ headed r 2 (omega arith) v })
+      let v = second r said.cars (accepted_well_formed r said.cars said.says).0.written h in
+      let l = record_long in
+      rw (tail_part r 1) (means_converts r true (2 ∷ drop 1 r) said.cars (record { says = said.says; held = refl; written = written_back r said.cars said.says v ∙ headed r 2 (omega arith) v }))
 
-  pub one_as_one : get_or r 0 0 ≡ 1 → Converts r false (1 ∷ drop 1 r)
+  pub one_as_one : get_or r 0 0 ≡ 1 → (out : List ℕ) → converted r false out ≡ laid_down (1 ∷ from 1 r) out
   unfolding many_cars encoded_as
   one_as_one h =
-      let v = version_one_lem r a.0 a.1 h in
+      let v = version_one_lem r said.cars said.says h in
       let one-car = v.0 in
-      means_converts r false (1 ∷ drop 1 r) a.0 (record { says = a.1; held = le-ltb 1 (length a.0) (omega arith); written = rw v.1 })
+      rw (tail_part r 1) (means_converts r false (1 ∷ drop 1 r) said.cars (record { says = said.says; held = le-ltb 1 (length said.cars) (omega arith); written = ap (λ (s : List ℕ). 1 ∷ drop 1 s) (sym v.1) }))
 
-  pub two_as_one : (get_or r 0 0 ≡ 1 → ⊥) → n ≤ 1 → Converts r false (1 ∷ drop 2 r)
+  pub two_as_one : (get_or r 0 0 ≡ 1 → ⊥) → n ≤ 1 → (out : List ℕ) → converted r false out ≡ laid_down (1 ∷ from 2 r) out
   unfolding many_cars encoded_as
   two_as_one h few =
-      let v = second r a.0 (accepted_well_formed r a.0 a.1).0.written h in
-      let same : drop 2 r ≡ car_parts a.0 = ap (λ (s : List ℕ). drop 2 s) (sym (written_back r a.0 a.1 v)) ∙ body a.0 in
-      let count = a.2 in
-      means_converts r false (1 ∷ drop 2 r) a.0 (record { says = a.1; held = le-ltb 1 (length a.0) (omega arith); written = rw same })
+      let v = second r said.cars (accepted_well_formed r said.cars said.says).0.written h in
+      let same : drop 2 r ≡ car_parts said.cars = ap (λ (s : List ℕ). drop 2 s) (sym (written_back r said.cars said.says v)) ∙ body said.cars in
+      let count = said.count in
+      rw (tail_part r 2) (means_converts r false (1 ∷ drop 2 r) said.cars (record { says = said.says; held = le-ltb 1 (length said.cars) (omega arith); written = rw same }))
 
-  pub many_cars_lem : (out : List ℕ) → 1 < n → converted r false out ≡ refusal ManyCars out
-  unfolding converted converted_from many_cars
-  many_cars_lem out many = let count = a.2 in rw (a.1, lt-ltb 1 (length a.0) (omega arith))
+  pub many_cars_lem : (out : List ℕ) → 1 < n → converted r false out ≡ outcome_of (Err ManyCars) out
+  unfolding converted converted_from many_cars refusal
+  many_cars_lem out many = let count = said.count in rw (said.says, lt-ltb 1 (length said.cars) (omega arith))
 
 -- ---- a record that is laid down fits
 
-laid_fits : (r out : List ℕ) (b : Bool) → ltb (length out) (length r) ≡ b → (laid_down r out).answer ≡ Done → (laid_down r out).room ≤ length out
+laid_fits : (r out : List ℕ) (n : ℕ) (b : Bool) → ltb (length out) (length r) ≡ b → (laid_down r out).answer ≡ Ok n → n ≤ length out
 unfolding laid_down
-laid_fits r out true e h = let z : ◌≡◌ {A = ℕ} 30 0 = ap conversion_number (rw e at h) in absurd (omega arith)
-laid_fits r out false e h = rw e (ltb-false (length out) (length r) e)
-
-done_fits : (r : List ℕ) (target : Bool) (out : List ℕ) → (converted r target out).answer ≡ Done → (converted r target out).room ≤ length out
-unfolding converted refusal no_room
-done_fits r target out =
-    every (λ o. o.answer ≡ Done → o.room ≤ length out) out (λ a h. omega arith) (λ s. laid_fits s out (ltb (length out) (length s)) refl) (decoded r) target
-
-pub given_fits : (x : Converted) (after r : List ℕ) (target : Bool) (out : List ℕ) → outcome_of x after ≡ converted r target out → length after ≡ length out → x.answer ≡ Done
-    → x.room ≤ length after
-given_fits x after r target out e k h =
-    let f = done_fits r target out (ap (λ (o : Outcome). o.answer) (sym e) ∙ h) in
-    let n : x.room ≡ (converted r target out).room = ap (λ (o : Outcome). o.room) e in
+laid_fits r out n true e h = let z = rw e at h in cc
+laid_fits r out n false e h =
+    let z = rw e at h in
+    let m : length r ≡ n = cc in
+    let l = ltb-false (length out) (length r) e in
     omega arith
 
--- ---- by restore's verdict
+done_fits : (r : List ℕ) (target : Bool) (out : List ℕ) (n : ℕ) → (converted r target out).answer ≡ Ok n → n ≤ length out
+unfolding converted refusal
+done_fits r target out n =
+    every (λ o. o.answer ≡ Ok n → n ≤ length out) out (λ a h. cc) (λ s. laid_fits s out n (ltb (length out) (length s)) refl) (decoded r) target
 
-restored_ok : (x : Reading) → (restored x).answer ≡ Restored → (cs : List CarIds) × (x ≡ ok cs) × ((restored x).store.count ≡ length cs)
-unfolding restored Store.refusal store_of
-restored_ok malformed e = let z : ◌≡◌ {A = ℕ} 22 0 = ap record_number e in absurd (omega arith)
-restored_ok car_twice e = let z : ◌≡◌ {A = ℕ} 28 0 = ap record_number e in absurd (omega arith)
-restored_ok too_large e = let z : ◌≡◌ {A = ℕ} 23 0 = ap record_number e in absurd (omega arith)
-restored_ok (ok cs) e = (cs, refl, refl)
+pub given_fits : (n : ℕ) (after r : List ℕ) (target : Bool) (out : List ℕ) → outcome_of (Ok n) after ≡ converted r target out → length after ≡ length out → n ≤ length after
+given_fits n after r target out e k =
+    let f = done_fits r target out n (ap (λ (o : Outcome). o.answer) (sym e)) in
+    omega arith
 
-pub accepted : (r : List ℕ) (d : Decoded) → d ≡ restored (decoded r) → d.answer ≡ Restored → Accepted r d.store.count
-accepted r d e h = rw e (restored_ok (decoded r) (rw e at h))
+-- ---- by what restore says
 
--- what a refusal of restore is answered with
-abbrev answer_of : RecordVerdict → Conversion
-answer_of Restored = Done
-answer_of Verdict.Malformed = Malformed
-answer_of Verdict.CarTwice = CarTwice
-answer_of Verdict.TooLarge = TooLarge
+pub accepted : (r : List ℕ) (s : Store) → Ok s ≡ restored (decoded r) → Accepted r s.count
+unfolding restored store_of Accepted
+accepted r s e = go (decoded r) refl
+  where
+    go : (x : Reading) → decoded r ≡ x → Accepted r s.count
+    go malformed q = let z = rw q at e in cc
+    go car_twice q = let z = rw q at e in cc
+    go too_large q = let z = rw q at e in cc
+    go (ok cs) q = let z = rw q at e in let n : s ≡ store_of cs = cc in (cs, q, ap (λ (x : Store). x.count) n)
 
-from_refused : (x : Reading) (target : Bool) (out : List ℕ) → ((restored x).answer ≡ Restored → ⊥) → converted_from x target out ≡ refusal (answer_of (restored x).answer) out
-unfolding converted_from restored Store.refusal
-from_refused malformed target out h = refl
-from_refused car_twice target out h = refl
-from_refused too_large target out h = refl
-from_refused (ok cs) target out h = absurd (h refl)
-
-pub refused_as : (r : List ℕ) (d : Decoded) (target : Bool) (out : List ℕ) (v : RecordVerdict) → d ≡ restored (decoded r) → d.answer ≡ v → (v ≡ Restored → ⊥)
-    → converted r target out ≡ refusal (answer_of v) out
-unfolding converted
-refused_as r d target out v e h n =
-    let f : (restored (decoded r)).answer ≡ v = rw e at h in
-    rw (from_refused (decoded r) target out (λ z. n (sym f ∙ z)), f)
+pub refused_as : (r : List ℕ) (e : RecordError) (target : Bool) (out : List ℕ) → Err e ≡ restored (decoded r) → outcome_of (Err (conversion_error e)) out ≡ converted r target out
+unfolding restored converted converted_from refusal
+refused_as r e target out h = go (decoded r) refl
+  where
+    go : (x : Reading) → decoded r ≡ x → outcome_of (Err (conversion_error e)) out ≡ converted r target out
+    go malformed q = let z = rw q at h in let same : e ≡ Record.Malformed = cc in rw (q, same)
+    go car_twice q = let z = rw q at h in let same : e ≡ Record.CarTwice = cc in rw (q, same)
+    go too_large q = let z = rw q at h in let same : e ≡ Record.TooLarge = cc in rw (q, same)
+    go (ok cs) q = let z = rw q at h in cc

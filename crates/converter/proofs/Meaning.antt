@@ -10,9 +10,10 @@ use lib.ListN.{length, get_or, drop_of_length-le}
 use Rattle.arrays.specs.Arrays.{put}
 use Rattle.saved_record.specs.SavedRecord.{CarIds, twice, over, Reading, malformed, car_twice, too_large, ok, decoded}
 use Rattle.saved_record.proofs.RoundTrip.{Versions, one, two, WellFormed, judged_by, accepted_well_formed, reads_back, written_back}
-use Rattle.converter.specs.declared.Conversion.{Conversion}
-use Rattle.converter.specs.declared.Conversion.TheVariants.{Done, Malformed, CarTwice, TooLarge, ManyCars}
-use Rattle.converter.specs.Convert.{encoded_as, Outcome, no_room, refusal, laid_down, many_cars, converted_from, converted, conversion_number}
+use Rattle.std.specs.Prelude.{Ok}
+use Rattle.converter.specs.declared.ConversionError.{ConversionError}
+use Rattle.converter.specs.declared.ConversionError.TheVariants.{Malformed, CarTwice, TooLarge, ManyCars}
+use Rattle.converter.specs.Convert.{encoded_as, Outcome, room_of, refusal, laid_down, many_cars, converted_from, converted, conversion_number}
 use Rattle.converter.specs.Theorems.{Converts, is_two}
 
 -- r says these cars, which the version can hold, and r' is how they are written in it
@@ -32,7 +33,7 @@ either P true x y p q = p
 either P false x y p q = q
 
 -- what holds of every refusal, and of every record that is to be laid down
-pub every : (P : Outcome → Type 0) (out : List ℕ) → ((a : Conversion) → P (refusal a out)) → ((r : List ℕ) → P (laid_down r out))
+pub every : (P : Outcome → Type 0) (out : List ℕ) → ((e : ConversionError) → P (refusal e out)) → ((r : List ℕ) → P (laid_down r out))
     → (x : Reading) (target : Bool) → P (converted_from x target out)
 unfolding converted_from
 every P out p q malformed target = p Malformed
@@ -42,29 +43,29 @@ every P out p q (ok cs) target = either P (many_cars target cs) _ _ (p ManyCars)
 
 -- ---- what is converted, means
 
-room_of : (r out : List ℕ) → (laid_down r out).room ≡ length r
+laid_room : (r out : List ℕ) → room_of (laid_down r out).answer ≡ length r
 unfolding laid_down
-room_of r out = either (λ (o : Outcome). o.room ≡ length r) (ltb (length out) (length r)) _ _ refl refl
+laid_room r out = either (λ (o : Outcome). room_of o.answer ≡ length r) (ltb (length out) (length r)) _ _ refl refl
 
 over_all : (r out : List ℕ) → length out ≡ length r → put out 0 r ≡ r
 unfolding put
 over_all r out e = rw (drop_of_length-le out {i = 0 + length r} (omega arith)) (append-nil r)
 
 -- where the output is just as long
-laid_over : (r out : List ℕ) → length out ≡ length r → laid_down r out ≡ record { answer = Done; room = length r; out = r }
+laid_over : (r out : List ℕ) → length out ≡ length r → laid_down r out ≡ record { answer = Ok (length r); out = r }
 unfolding laid_down
 laid_over r out e = rw (le-ltb (length out) (length r) (omega arith), over_all r out e)
 
 same_laid : (r s : List ℕ) → ((out : List ℕ) → laid_down r out ≡ laid_down s out) → r ≡ s
 same_laid r s h =
-    let n : length r ≡ length s = sym (room_of r []) ∙ ap (λ (o : Outcome). o.room) (h []) ∙ room_of s [] in
+    let n : length r ≡ length s = sym (laid_room r []) ∙ ap (λ (o : Outcome). room_of o.answer) (h []) ∙ laid_room s [] in
     ap (λ (o : Outcome). o.out) (sym (laid_over r s (sym n)) ∙ h s ∙ laid_over s s refl)
 
 number : Outcome → ℕ
 number o = conversion_number o.answer
 
 pub converts_means : (r : List ℕ) (target : Bool) (r' : List ℕ) → Converts r target r' → (cs : List CarIds) × Means r target r' cs
-unfolding converted converted_from refusal no_room number
+unfolding converted converted_from refusal number
 converts_means r target r' h = go (decoded r) refl h
   where
     done : (o : Outcome) → o ≡ laid_down r' r' → number o ≡ 0

@@ -7,7 +7,7 @@ use lib.Dec.{ltb}
 use lib.ListN.{length, drop}
 use Rattle.saved_record.specs.SavedRecord.{CarIds, car_parts, encoded, ok, decoded}
 use Rattle.saved_record.proofs.RoundTrip.{version_one_lem, written_back}
-use Rattle.converter.specs.declared.Conversion.TheVariants.{Done}
+use Rattle.std.specs.Prelude.{IsErr}
 use Rattle.converter.specs.Convert.{encoded_as, refusal, laid_down, many_cars, converted}
 use Rattle.converter.specs.Theorems.{is_two, ThereAndBack, AsItIs, Always, SameMeaning, Untouched}
 use Rattle.converter.proofs.Meaning.{Means, means_converts, converts_means, own_version, read_again, every}
@@ -44,12 +44,12 @@ always =
       down = λ n body c e. means_converts (2 ∷ n ∷ body) false (1 ∷ body) (c ∷ []) (down n body c e);
     }
 
-laid_kept : (r out : List ℕ) (b : Bool) → ltb (length out) (length r) ≡ b → ((laid_down r out).answer ≡ Done → ⊥) → (laid_down r out).out ≡ out
+laid_kept : (r out : List ℕ) (b : Bool) → ltb (length out) (length r) ≡ b → IsErr (laid_down r out).answer → (laid_down r out).out ≡ out
 unfolding laid_down
 laid_kept r out true e h = rw e
-laid_kept r out false e h = absurd (h (rw e))
+laid_kept r out false e h = let z = rw e at h in cc
 
 pub untouched : Untouched
 unfolding converted refusal
 untouched r target out =
-    every (λ o. (o.answer ≡ Done → ⊥) → o.out ≡ out) out (λ a h. refl) (λ s. laid_kept s out (ltb (length out) (length s)) refl) (decoded r) target
+    every (λ o. IsErr o.answer → o.out ≡ out) out (λ a h. refl) (λ s. laid_kept s out (ltb (length out) (length s)) refl) (decoded r) target

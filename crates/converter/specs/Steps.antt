@@ -3,5 +3,5 @@ use Rattle.std.specs.Prelude.{◌≡◌, List, ℕ, length}
 use Rattle.saved_record.specs.SavedRecord.{CarIds, ok, decoded}
 
 -- restore accepts the record, as so many cars
-abbrev pub Accepted : List ℕ → ℕ → Type 0
+unfoldable pub Accepted : List ℕ → ℕ → Type 0
 Accepted r n = (cs : List CarIds) × (decoded r ≡ ok cs) × (n ≡ length cs)

@@ -1,7 +1,6 @@
 -- What holds of the conversion.
-use Rattle.std.specs.Prelude.{◌≡◌, Bool, true, false, List, [], ◌∷◌, ℕ, ◌<◌, eqb, take, get_or}
+use Rattle.std.specs.Prelude.{◌≡◌, Bool, true, false, List, [], ◌∷◌, ℕ, ◌<◌, eqb, take, get_or, IsErr}
 use Rattle.saved_record.specs.SavedRecord.{CarIds, ok, decoded}
-use Rattle.converter.specs.declared.Conversion.TheVariants.{Done}
 use Rattle.converter.specs.Convert.{laid_down, converted}
 
 -- r is converted to r': no refusal but 30, and that exactly where r' does not fit
@@ -31,7 +30,7 @@ SameMeaning = (r : List ℕ) (two : Bool) (r' : List ℕ) → Converts r two r' 
 
 -- "The output is untouched by any of them"
 abbrev pub Untouched : Type 0
-Untouched = (r : List ℕ) (two : Bool) (out : List ℕ) → ((converted r two out).answer ≡ Done → ⊥) → (converted r two out).out ≡ out
+Untouched = (r : List ℕ) (two : Bool) (out : List ℕ) → IsErr (converted r two out).answer → (converted r two out).out ≡ out
 
 -- each is a byte
 abbrev pub Bytes : List ℕ → Type 0

@@ -1,91 +1,96 @@
 // Records for older packs: a saved record as version 1 or as version 2, whichever it is. No call on the gate: it takes none.
 #![tactic(auto)]
 
-ghost use Rattle.std.specs.Prelude.{◌≡◌, ◌++◌, ◌+◌, ◌-◌, ◌≤◌, length, drop};
-ghost use Rattle.converter.specs.Convert.{outcome_of, no_room, laid_down, converted};
+ghost use Rattle.std.specs.Prelude.{◌≡◌, ◌++◌, ◌+◌, ◌≤◌, length};
+ghost use Rattle.converter.specs.Convert.{conversion_error, outcome_of, laid_down, converted};
 ghost use Rattle.converter.specs.Steps.{Accepted};
 
-use saved_record::RecordVerdict;
+use saved_record::RecordError;
+use std::error::Error;
+use std::fmt;
 
-#[derive(Clone, Copy)]
-pub enum Conversion {
-    Done,
+// Why a record is not converted. ShortOutput has the room that the record needs.
+#[derive(Clone, Copy, Debug, PartialEq, Eq)]
+pub enum ConversionError {
     Malformed,
     CarTwice,
     TooLarge,
     ManyCars,
-    ShortOutput,
+    ShortOutput(usize),
 }
 
-// The answer, and how many bytes the record has as the version asked for; 0 with a refusal other than ShortOutput.
-#[derive(Clone, Copy)]
-pub struct Converted {
-    pub answer: Conversion,
-    pub room: usize,
+// The number of the refusal, and its name.
+impl fmt::Display for ConversionError {
+    fn fmt<W: fmt::Write>(&self, f: &mut fmt::Formatter<W>) -> fmt::Result {
+        f.write_str(match self {
+            ConversionError::Malformed => "22/Malformed",
+            ConversionError::CarTwice => "28/CarTwice",
+            ConversionError::TooLarge => "23/TooLarge",
+            ConversionError::ManyCars => "29/ManyCars",
+            ConversionError::ShortOutput(_) => "30/ShortOutput",
+        })
+    }
 }
 
-fn refused(answer: Conversion) -> Converted
-    ensures { result ≡ no_room answer }
+impl Error for ConversionError {}
+
+impl From<RecordError> for ConversionError {
+    ghost from_gives = { λ e given. given ≡ conversion_error e };
+
+    fn from(e: RecordError) -> ConversionError {
+        match e {
+            RecordError::Malformed => ConversionError::Malformed,
+            RecordError::CarTwice => ConversionError::CarTwice,
+            RecordError::TooLarge => ConversionError::TooLarge,
+        }
+    }
+}
+
+// Lays down a record, its head and then its body, where there is room for both, and tells its length.
+#[tactic(auto, using(crate::proofs::Laws::too_long, crate::proofs::Laws::laid))]
+fn put_record(head: &[u8], body: &[u8], out: &mut [u8]) -> Result<usize, ConversionError>
+    requires { length head.now + length body.now ≤ 4358 }
+    ensures { outcome_of result out.new ≡ laid_down (head.now ++ body.now) out.old }
 {
-    Converted { answer, room: 0 }
-}
-
-// Lays down a record, its head and then what stands in `saved` from `from` on, where there is room for both.
-fn put_record(head: &[u8], saved: &[u8], from: usize, out: &mut [u8]) -> Converted
-    requires { (from ≤ length saved.now) × (length head.now + (length saved.now - from) ≤ 4358) }
-    ensures { outcome_of result out.new ≡ laid_down (head.now ++ drop from saved.now) out.old }
-{
-    let body = &saved[from..];
-    let n = head.len();
-    let room = n + body.len();
+    let room = head.len() + body.len();
     if out.len() < room {
-        return Converted {
-            answer: Conversion::ShortOutput,
-            room,
-        };
+        return Err(ConversionError::ShortOutput(room));
     }
     arrays::put(out, 0, head);
-    arrays::put(out, n, body);
-    Converted {
-        answer: Conversion::Done,
-        room,
-    }
+    arrays::put(out, head.len(), body);
+    Ok(room)
 }
 
 // Lays down a record that restore accepts, with this many cars. The versions differ in the head alone: 1, or 2 and the number of cars.
-fn put_accepted(saved: &[u8], cars: usize, two: bool, out: &mut [u8]) -> Converted
+#[tactic(auto, using(crate::proofs::Laws::record_long, crate::proofs::Laws::record_short, crate::proofs::Laws::record_longer, crate::proofs::Laws::one_as_two, crate::proofs::Laws::two_as_two, crate::proofs::Laws::one_as_one, crate::proofs::Laws::two_as_one, crate::proofs::Laws::many_cars_lem))]
+fn put_accepted(
+    saved: &[u8],
+    cars: usize,
+    two: bool,
+    out: &mut [u8],
+) -> Result<usize, ConversionError>
     requires { Accepted saved.now cars }
     ensures { outcome_of result out.new ≡ converted saved.now two out.old }
 {
-    let version = saved[0];
-    if two {
-        if version == 1 {
-            return put_record(b"\x02\x01", saved, 1, out);
-        }
-        return put_record(b"\x02", saved, 1, out);
+    match (two, saved[0]) {
+        (true, 1) => put_record(b"\x02\x01", &saved[1..], out),
+        (true, _) => put_record(b"\x02", &saved[1..], out),
+        (false, _) if 1 < cars => Err(ConversionError::ManyCars),
+        (false, 1) => put_record(b"\x01", &saved[1..], out),
+        (false, _) => put_record(b"\x01", &saved[2..], out),
     }
-    if 1 < cars {
-        return refused(Conversion::ManyCars);
-    }
-    if version == 1 {
-        return put_record(b"\x01", saved, 1, out);
-    }
-    put_record(b"\x01", saved, 2, out)
 }
 
-// Judges a record as restore does, and lays it down in `out` as version 2, or as version 1. A refusal leaves `out` as it is.
-pub fn convert_phone_validations(saved: &[u8], two: bool, out: &mut [u8]) -> Converted
+// Judges a record as restore does, and lays it down in `out` as version 2, or as version 1. Told is how many bytes it has as that. A
+// refusal leaves `out` as it is.
+#[tactic(auto, using(crate::proofs::Laws::accepted, crate::proofs::Laws::refused_as))]
+pub fn convert_phone_validations(
+    saved: &[u8],
+    two: bool,
+    out: &mut [u8],
+) -> Result<usize, ConversionError>
     ensures { outcome_of result out.new ≡ converted saved.now two out.old }
 {
-    let read = decode_record::decode_phone_validations(saved);
-    let answer = read.answer;
-    match answer {
-        RecordVerdict::Restored => {
-            let cars = read.store.count;
-            put_accepted(saved, cars, two, out)
-        }
-        RecordVerdict::Malformed => refused(Conversion::Malformed),
-        RecordVerdict::CarTwice => refused(Conversion::CarTwice),
-        RecordVerdict::TooLarge => refused(Conversion::TooLarge),
-    }
+    let store = decode_record::decode_phone_validations(saved)?;
+    put_accepted(saved, store.count, two, out)
 }

@@ -6,6 +6,8 @@ use Prim.Native.Nat.{ℕ, zero, suc, ◌+◌, ◌-◌, ◌≤◌, ◌<◌}
 use native.Mathlib.Omega.{arith}
 use lib.ListN.{length, take, drop, set, replicate, length-append, length-map, length-set}
 use lib.Seq.{drop_at, take_at}
+use lib.Dec.{eqb}
+use borrow.Author.Tests.{eqb-true, eqb-false}
 use Rattle.arrays.specs.Arrays.{padded}
 use Rattle.arrays.proofs.Laws.{padded_push}
 use Rattle.phones.specs.Ids.{some_of}
@@ -14,11 +16,13 @@ use Rattle.phone_fields.specs.PhoneFields.{Read, not_whole, whole, over_limits}
 use Rattle.phone_fields.proofs.Reading.{after, after_one, after_none, after_whole}
 use Rattle.saved_record.specs.declared.CarPhones.{CarPhones}
 use Rattle.decode_record.specs.declared.CarRead.{CarRead}
-use Rattle.saved_record.specs.declared.Decoded.{Decoded}
-use Rattle.saved_record.specs.declared.RecordVerdict.TheVariants.{Restored, Malformed, CarTwice, TooLarge}
+use Rattle.std.specs.Prelude.{Result, Ok, Err, Some, None}
+use Rattle.saved_record.specs.declared.Store.{Store}
+use Rattle.saved_record.specs.declared.RecordError.{RecordError}
+use Rattle.saved_record.specs.declared.RecordError.TheVariants.{Malformed, CarTwice, TooLarge}
 use Rattle.saved_record.specs.SavedRecord.{CarIds, car_part, read_car, read_on, read_cars, nothing_after, has_car, twice, over, judged}
-use Rattle.saved_record.specs.Store.{car_of, laid_car, empty_car, cars_of, store_of, refusal, restored}
-use Rattle.decode_record.specs.Steps.{kept_car, no_part, car_read}
+use Rattle.saved_record.specs.Store.{car_of, laid_car, empty_car, cars_of, store_of, restored}
+use Rattle.decode_record.specs.Steps.{kept_car, car_read}
 use Rattle.saved_record.proofs.Parts.{ReadCar, refused, is, car_read_lem}
 use Rattle.decode_record.proofs.Reading.{tail_part}
 
@@ -52,35 +56,29 @@ pub record Told (s : List ℕ) (r : CarRead) (c : CarIds) : Type 0 where
   pub kept : r.car ≡ kept_car c
   pub limits : r.over ≡ over_limits c.phones
 
-module _ (s : List ℕ) (r : CarRead) (e : r ≡ car_read (length s) (read_car s)) where
-  pub told_none : r.whole ≡ false → read_car s ≡ not_whole
+module _ (s : List ℕ) where
+  pub told_none : None ≡ car_read (length s) (read_car s) → read_car s ≡ not_whole
   unfolding car_read
-  told_none f = go (car_read_lem s)
+  told_none e = go (car_read_lem s)
     where
       go : ReadCar s → read_car s ≡ not_whole
       go (refused q) = q
-      go (is c rest q w d u) =
-          let t : r.whole ≡ true = rw (e, q) in
-          let z : false ≡ true = sym f ∙ t in
-          let y : ◌≡◌ {A = ℕ} 0 1 = cc in
-          absurd (omega arith)
+      go (is c rest q w d u) = let z = rw q at e in cc
 
-  pub told : r.whole ≡ true → (c : CarIds) × Told s r c
-  unfolding car_read no_part
-  told f = go (car_read_lem s)
+  pub told : (r : CarRead) → Some r ≡ car_read (length s) (read_car s) → (c : CarIds) × Told s r c
+  unfolding car_read
+  told r e = go (car_read_lem s)
     where
       go : ReadCar s → (c : CarIds) × Told s r c
-      go (refused q) =
-          let t : r.whole ≡ false = rw (e, q) in
-          let z : true ≡ false = sym f ∙ t in
-          let y : ◌≡◌ {A = ℕ} 0 1 = cc in
-          absurd (omega arith)
+      go (refused q) = let z = rw q at e in cc
       go (is c rest q w d u) =
-          let used : r.used ≡ length s - length rest = rw (e, q) in
+          let z = rw q at e in
+          let same : r ≡ record { over = over_limits c.phones; car = kept_car c; used = length s - length rest } = cc in
+          let used : r.used ≡ length s - length rest = rw same in
           let l : length (car_part c) + length rest ≡ length s = sym (length-append (car_part c) rest) ∙ ap length w in
           let tail : drop (length (car_part c)) s ≡ rest = rw (← w) (drop_at (car_part c) rest (length (car_part c)) refl) in
           let n : length (car_part c) ≡ r.used = omega arith in
-          (c, record { fits = omega arith; reading = rw (tail_part s r.used, ← n, tail) q; kept = rw (e, q); limits = rw (e, q) })
+          (c, record { fits = omega arith; reading = rw (tail_part s r.used, ← n, tail) q; kept = rw same; limits = rw same })
 
 -- ---- the cars read so far
 
@@ -110,7 +108,7 @@ map_snoc f (y ∷ xs) x = rw (map_snoc f xs x)
 
 module _ (count : ℕ) (part : List ℕ) (cars : List CarPhones) (passed : Bool) (rest : List ℕ) (i : ℕ) (done : List CarIds) (few : count ≤ 4) (g : Gathered count part cars passed rest i done) where
   -- what remains cannot be read
-  pub gathered_refused : i < count → read_car rest ≡ not_whole → refusal Malformed ≡ restored (judged (nothing_after (read_cars count part)))
+  pub gathered_refused : i < count → read_car rest ≡ not_whole → Err Malformed ≡ restored (judged (nothing_after (read_cars count part)))
   unfolding read_on restored judged nothing_after
   gathered_refused h e = rw (g.reading, read_next (count - i) rest (omega arith), e, after_none done)
 
@@ -141,14 +139,17 @@ module _ (count : ℕ) (part : List ℕ) (cars : List CarPhones) (passed : Bool)
         let z : count - i ≡ 0 = omega arith in
         g.reading ∙ rw z (after_whole done [] rest ∙ rw (append-nil done))
 
-    trailing : (t : List ℕ) → 0 < length t → refusal Malformed ≡ restored (judged (nothing_after (whole done t)))
+    trailing : (t : List ℕ) → 0 < length t → Err Malformed ≡ restored (judged (nothing_after (whole done t)))
     unfolding restored judged nothing_after
     trailing [] h = absurd (omega arith)
     trailing (x ∷ t) h = refl
 
+    pos : (n : ℕ) → eqb n 0 ≡ false → 0 < n
+    pos n h = let z = eqb-false n 0 h in grind arith
+
     -- something follows the cars
-    pub gathered_trailing : 0 < length rest → refusal Malformed ≡ restored (judged (nothing_after (read_cars count part)))
-    gathered_trailing h = rw whole_read (trailing rest h)
+    pub gathered_trailing : eqb (length rest) 0 ≡ false → Err Malformed ≡ restored (judged (nothing_after (read_cars count part)))
+    gathered_trailing h = rw whole_read (trailing rest (pos (length rest) h))
 
     cars_held : cars_of (record { cars = cars; count = count }) ≡ map car_of (map kept_car done)
     unfolding cars_of padded
@@ -158,27 +159,27 @@ module _ (count : ℕ) (part : List ℕ) (cars : List CarPhones) (passed : Bool)
         let n : length (map kept_car done) ≡ count = length-map done kept_car ∙ (omega arith) in
         rw (g.laid, take_at (map kept_car done) (replicate (4 - length (map kept_car done)) empty_car) count n)
 
-    module _ (end : length rest ≤ 0) (t : Bool) (et : t ≡ twice (cars_of (record { cars = cars; count = count }))) where
+    module _ (end : eqb (length rest) 0 ≡ true) (t : Bool) (et : t ≡ twice (cars_of (record { cars = cars; count = count }))) where
       twice_done : twice done ≡ t
       twice_done = sym (et ∙ rw cars_held (twice_kept done))
 
-      nothing_left : (s : List ℕ) → length s ≤ 0 → nothing_after (whole done s) ≡ nothing_after (whole done [])
+      nothing_left : (s : List ℕ) → length s ≡ 0 → nothing_after (whole done s) ≡ nothing_after (whole done [])
       nothing_left [] h = refl
       nothing_left (x ∷ s) h = absurd (omega arith)
 
       said : restored (judged (nothing_after (read_cars count part))) ≡ restored (judged (nothing_after (whole done [])))
-      said = rw (whole_read, nothing_left rest end)
+      said = rw (whole_read, nothing_left rest (eqb-true (length rest) 0 end))
 
-      pub gathered_twice : t ≡ true → refusal CarTwice ≡ restored (judged (nothing_after (read_cars count part)))
+      pub gathered_twice : t ≡ true → Err CarTwice ≡ restored (judged (nothing_after (read_cars count part)))
       unfolding restored judged nothing_after
       gathered_twice h = sym (said ∙ rw (twice_done, h))
 
-      pub gathered_large : t ≡ false → passed ≡ true → refusal TooLarge ≡ restored (judged (nothing_after (read_cars count part)))
+      pub gathered_large : t ≡ false → passed ≡ true → Err TooLarge ≡ restored (judged (nothing_after (read_cars count part)))
       unfolding restored judged nothing_after
       gathered_large h p = sym (said ∙ rw (twice_done, h, ← g.limits, p))
 
       pub gathered_all : t ≡ false → passed ≡ false
-          → ◌≡◌ {A = Decoded} (record { answer = Restored; store = record { cars = cars; count = count } }) (restored (judged (nothing_after (read_cars count part))))
+          → ◌≡◌ {A = Result Store RecordError} (Ok (record { cars = cars; count = count })) (restored (judged (nothing_after (read_cars count part))))
       unfolding restored judged nothing_after store_of
       gathered_all h p =
           let u = g.upto in
@@ -188,6 +189,6 @@ module _ (count : ℕ) (part : List ℕ) (cars : List CarPhones) (passed : Bool)
           sym (said ∙ rw (twice_done, h, o, m, l))
 
 -- what is not whole is refused
-pub refused_part : (o : Read (List CarIds)) → o ≡ not_whole → refusal Malformed ≡ restored (judged (nothing_after o))
+pub refused_part : (o : Read (List CarIds)) → o ≡ not_whole → Err Malformed ≡ restored (judged (nothing_after o))
 unfolding restored judged nothing_after
 refused_part o e = rw e

@@ -1,11 +1,12 @@
 -- The record read: a car's part, and what stands before the cars.
 use mathlib.Core.Path.{◌≡◌, refl, ap, sym, ◌∙◌}
 use mathlib.Core.Bool.{Bool, true, false, cond}
+use Rattle.std.specs.Prelude.{Option, Some, None, Result, Err}
 use mathlib.Core.List.{List, [], ◌∷◌, append-nil}
 use Prim.Native.Nat.{ℕ, zero, suc, ◌+◌, ◌-◌, ◌≤◌, ◌<◌}
 use native.Mathlib.Omega.{arith}
-use borrow.Author.Tests.{eq-eqb, ne_eqb, lt-ltb, le-ltb}
-use lib.Dec.{eqb}
+use borrow.Author.Tests.{eq-eqb, ne_eqb, lt-ltb, le-ltb, ltb-true, ltb-false}
+use lib.Dec.{eqb, ltb}
 use lib.ListN.{length, take, drop, get_or, replicate, drop_of_length-le, length-append, length-drop}
 use lib.Seq.{drop-cons, take_all, length-take-le}
 use Rattle.arrays.specs.Arrays.{put}
@@ -15,13 +16,20 @@ use Rattle.phone_fields.specs.declared.FieldsVerdict.{FieldsVerdict}
 use Rattle.phone_fields.specs.declared.FieldsVerdict.TheVariants as Fields
 use Rattle.phone_fields.specs.declared.FieldsVerdict.TheVariants.{Whole}
 use Rattle.phone_fields.specs.declared.FieldsRead.{FieldsRead}
-use Rattle.phone_fields.specs.PhoneFields.{fields, not_whole, whole, PhonesRead, read_fields, over_limits, no_list, fields_read}
+use Rattle.phone_fields.specs.PhoneFields.{fields, Read, not_whole, whole, PhonesRead, read_fields, over_limits, no_list, fields_read}
 use Rattle.phone_fields.proofs.Laws.{ReadFields, refused, are, fields_read_lem}
 use Rattle.decode_record.specs.declared.CarRead.{CarRead}
-use Rattle.saved_record.specs.SavedRecord.{of_car, read_counted, read_after, read_car, read_cars, read_two, read_version}
-use Rattle.decode_record.specs.Steps.{kept_car, no_part, car_read, part_of}
+use Rattle.saved_record.specs.declared.Store.{Store}
+use Rattle.saved_record.specs.declared.RecordError.{RecordError}
+use Rattle.saved_record.specs.declared.RecordError.TheVariants.{Malformed}
+use Rattle.saved_record.specs.SavedRecord.{CarIds, of_car, read_counted, read_after, read_car, read_cars, read_two, read_version, nothing_after, judged, decoded}
+use Rattle.saved_record.specs.Store.{restored}
+use Rattle.decode_record.specs.Steps.{kept_car, car_read, part_of}
 
 -- ---- a car's part
+
+pub digest_length : (s : List ℕ) → 33 ≤ length s → length (take 32 s) ≡ 32
+digest_length s h = length-take-le 32 s (omega arith)
 
 -- the digest copied into an array
 pub car_copied : (s : List ℕ) → 32 ≤ length s → put (replicate 32 0) 0 (take 32 s) ≡ take 32 s
@@ -49,11 +57,19 @@ counted car (suc n) s h = refl
 pub tail_part : (s : List ℕ) (a : ℕ) → take (length s - a) (drop a s) ≡ drop a s
 tail_part s a = take_all (length s - a) (drop a s) (rw length-drop (omega arith))
 
+pub part_none : (s : List ℕ) → (33 ≤ length s → get_or s 32 0 ≡ 0) → None ≡ car_read (length s) (read_car s)
+unfolding car_read
+part_none s h = go (ltb (length s) 33) refl
+  where
+    go : (b : Bool) → ltb (length s) 33 ≡ b → None ≡ car_read (length s) (read_car s)
+    go true e = rw (part_short s (ltb-true (length s) 33 e))
+    go false e = let l = ltb-false (length s) 33 e in rw (part_counted s l, counted_none (take 32 s) (get_or s 32 0) (drop 33 s) (h l))
+
 -- what is answered by what is said of the phones, which stand after 33 bytes of s
-abbrev pub answered : List ℕ → FieldsVerdict → FieldsRead → CarRead
-answered s Whole read = part_of s read false
-answered s Fields.Malformed read = no_part
-answered s Fields.TooLarge read = part_of s read true
+abbrev pub answered : List ℕ → FieldsVerdict → FieldsRead → Option CarRead
+answered s Whole read = Some (part_of s read false)
+answered s Fields.Malformed read = None
+answered s Fields.TooLarge read = Some (part_of s read true)
 
 used_within : (n : ℕ) (o : PhonesRead) → (fields_read n o).used ≤ n
 unfolding fields_read no_list
@@ -75,7 +91,7 @@ answered_whole s ps rest n long within = go (over_limits ps)
     all : 33 + (n - length rest) ≡ length s - length rest
     all = omega arith
 
-    go : (b : Bool) → answered s (read b).verdict (read b) ≡ record { whole = true; over = b; car = record { car = take 32 s; phones = list_of (cond b [] ps) }; used = length s - length rest }
+    go : (b : Bool) → answered s (read b).verdict (read b) ≡ Some (record { over = b; car = record { car = take 32 s; phones = list_of (cond b [] ps) }; used = length s - length rest })
     go true = rw all
     go false = rw all
 
@@ -108,42 +124,36 @@ module _ (s : List ℕ) (n : ℕ) (long : 33 ≤ length s) (r : FieldsRead) (e :
 
 -- ---- what stands before the cars
 
-pub two_none : (s : List ℕ) → length s ≡ 0 → read_two s ≡ not_whole
+abbrev said : Read (List CarIds) → Result Store RecordError
+said o = restored (judged (nothing_after o))
+
+said_refused : (o : Read (List CarIds)) → o ≡ not_whole → said o ≡ Err Malformed
+unfolding restored judged nothing_after
+said_refused o e = rw e
+
+-- a number of cars that is not 1 to 4; where there is no byte, none
+pub two_refused : (s : List ℕ) → (0 < get_or s 0 0 → 4 < get_or s 0 0) → said (read_two s) ≡ Err Malformed
 unfolding read_two
-two_none [] h = refl
-two_none (n ∷ rest) h = absurd (omega arith)
+two_refused [] h = said_refused not_whole refl
+two_refused (zero ∷ rest) h = said_refused not_whole refl
+two_refused (suc n ∷ rest) h = said_refused _ (rw (lt-ltb 4 (suc n) (h (omega arith))) (cond_same (eqb (suc n) 0) not_whole))
 
-pub two_zero : (s : List ℕ) → get_or s 0 0 ≡ 0 → read_two s ≡ not_whole
+pub two_cars : (s : List ℕ) → 1 ≤ get_or s 0 0 → get_or s 0 0 ≤ 4 → said (read_two s) ≡ said (read_cars (get_or s 0 0) (take (length s - 1) (drop 1 s)))
 unfolding read_two
-two_zero [] h = refl
-two_zero (n ∷ rest) h = rw (eq-eqb n 0 h)
+two_cars [] some few = absurd (omega arith)
+two_cars (n ∷ rest) some few = rw (tail_part (n ∷ rest) 1, ne_eqb n 0 (λ e. omega arith), le-ltb 4 n few)
 
-pub two_many : (s : List ℕ) → 4 < get_or s 0 0 → read_two s ≡ not_whole
-unfolding read_two
-two_many [] h = refl
-two_many (n ∷ rest) h = rw (lt-ltb 4 n h) (cond_same (eqb n 0) not_whole)
+pub version_one : (r : List ℕ) → get_or r 0 0 ≡ 1 → restored (decoded r) ≡ said (read_cars 1 (take (length r - 1) (drop 1 r)))
+unfolding read_version decoded
+version_one [] h = absurd (omega arith)
+version_one (v ∷ rest) h = rw (tail_part (v ∷ rest) 1, eq-eqb v 1 h)
 
-pub two_cars_lem : (s : List ℕ) → (length s ≡ 0 → ⊥) → (get_or s 0 0 ≡ 0 → ⊥) → get_or s 0 0 ≤ 4 → read_two s ≡ read_cars (get_or s 0 0) (drop 1 s)
-unfolding read_two
-two_cars_lem [] g z h = absurd (g refl)
-two_cars_lem (n ∷ rest) g z h = rw (ne_eqb n 0 z, le-ltb 4 n h)
+pub version_two : (r : List ℕ) → get_or r 0 0 ≡ 2 → restored (decoded r) ≡ said (read_two (take (length r - 1) (drop 1 r)))
+unfolding read_version decoded
+version_two [] h = absurd (omega arith)
+version_two (v ∷ rest) h = rw (tail_part (v ∷ rest) 1, h)
 
-pub version_none : (r : List ℕ) → length r ≡ 0 → read_version r ≡ not_whole
-unfolding read_version
-version_none [] h = refl
-version_none (v ∷ rest) h = absurd (omega arith)
-
-pub version_one_lem : (r : List ℕ) → (length r ≡ 0 → ⊥) → get_or r 0 0 ≡ 1 → read_version r ≡ read_cars 1 (drop 1 r)
-unfolding read_version
-version_one_lem [] g h = absurd (g refl)
-version_one_lem (v ∷ rest) g h = rw (eq-eqb v 1 h)
-
-pub version_two_lem : (r : List ℕ) → (length r ≡ 0 → ⊥) → get_or r 0 0 ≡ 2 → read_version r ≡ read_two (drop 1 r)
-unfolding read_version
-version_two_lem [] g h = absurd (g refl)
-version_two_lem (v ∷ rest) g h = rw h
-
-pub version_other : (r : List ℕ) → (get_or r 0 0 ≡ 1 → ⊥) → (get_or r 0 0 ≡ 2 → ⊥) → read_version r ≡ not_whole
-unfolding read_version
-version_other [] one two = refl
-version_other (v ∷ rest) one two = rw (ne_eqb v 1 one, ne_eqb v 2 two)
+pub version_other : (r : List ℕ) → (get_or r 0 0 ≡ 1 → ⊥) → (get_or r 0 0 ≡ 2 → ⊥) → restored (decoded r) ≡ Err Malformed
+unfolding read_version decoded
+version_other [] one two = said_refused not_whole refl
+version_other (v ∷ rest) one two = said_refused _ (rw (ne_eqb v 1 one, ne_eqb v 2 two))

@@ -1,26 +1,21 @@
 -- What functions of the code give.
-use Rattle.std.specs.Prelude.{Bool, true, false, cond, List, [], ℕ, ◌+◌, ◌-◌, length, take}
+use Rattle.std.specs.Prelude.{Bool, cond, Option, Some, None, List, [], ℕ, ◌+◌, ◌-◌, length, take}
 use Rattle.phones.specs.Phones.{list_of}
 use Rattle.phone_fields.specs.declared.FieldsRead.{FieldsRead}
 use Rattle.phone_fields.specs.PhoneFields.{Read, not_whole, whole, over_limits}
 use Rattle.saved_record.specs.declared.CarPhones.{CarPhones}
 use Rattle.saved_record.specs.SavedRecord.{CarIds}
-use Rattle.saved_record.specs.Store.{empty_car}
 use Rattle.decode_record.specs.declared.CarRead.{CarRead}
 
 -- a car with its phones, where a list can hold them; its digest is kept in either case
 unfoldable pub kept_car : CarIds → CarPhones
 kept_car c = record { car = c.car; phones = list_of (cond (over_limits c.phones) [] c.phones) }
 
--- a part that is not whole
-unfoldable pub no_part : CarRead
-no_part = record { whole = false; over = false; car = empty_car; used = 0 }
-
 -- of n bytes those are used that do not remain
-unfoldable pub car_read : ℕ → Read CarIds → CarRead
-car_read n not_whole = no_part
-car_read n (whole c rest) = record { whole = true; over = over_limits c.phones; car = kept_car c; used = n - length rest }
+unfoldable pub car_read : ℕ → Read CarIds → Option CarRead
+car_read n not_whole = None
+car_read n (whole c rest) = Some (record { over = over_limits c.phones; car = kept_car c; used = n - length rest })
 
 -- the part of a car whose phones are read: 32 digest bytes and a count stand before them
 abbrev pub part_of : List ℕ → FieldsRead → Bool → CarRead
-part_of s read over = record { whole = true; over = over; car = record { car = take 32 s; phones = read.phones }; used = 33 + read.used }
+part_of s read over = record { over = over; car = record { car = take 32 s; phones = read.phones }; used = 33 + read.used }

@@ -1,12 +1,11 @@
 -- What a private function of the code gives.
-use Rattle.saved_record.specs.declared.RecordVerdict.{RecordVerdict}
-use Rattle.saved_record.specs.declared.RecordVerdict.TheVariants as Verdict
+use Rattle.saved_record.specs.declared.RecordError.{RecordError}
+use Rattle.saved_record.specs.declared.RecordError.TheVariants as Record
 use Rattle.state.specs.declared.Answer.{Answer}
-use Rattle.state.specs.declared.Answer.TheVariants.{Done, Malformed, CarTwice, TooLarge}
+use Rattle.state.specs.declared.Answer.TheVariants.{Malformed, CarTwice, TooLarge}
 
--- the answer to a record's verdict
-abbrev pub restore_answer : RecordVerdict → Answer
-restore_answer Verdict.Restored = Done
-restore_answer Verdict.Malformed = Malformed
-restore_answer Verdict.CarTwice = CarTwice
-restore_answer Verdict.TooLarge = TooLarge
+-- the answer to a record's refusal
+abbrev pub refusal_answer : RecordError → Answer
+refusal_answer Record.Malformed = Malformed
+refusal_answer Record.CarTwice = CarTwice
+refusal_answer Record.TooLarge = TooLarge

@@ -4,36 +4,34 @@
 ghost use Rattle.std.specs.Prelude.{◌≡◌};
 ghost use Rattle.state.specs.View.{listed_in};
 ghost use Rattle.validations.specs.Store.{restore};
-ghost use Rattle.restore_validations.specs.Answers.{restore_answer};
+ghost use Rattle.restore_validations.specs.Answers.{refusal_answer};
 
-use saved_record::RecordVerdict;
+use saved_record::RecordError;
 use state::{Answer, Listed, Phones};
 
-fn restore_answer(a: RecordVerdict) -> Answer
-    ensures { result ≡ restore_answer a }
+fn refusal_answer(e: RecordError) -> Answer
+    ensures { result ≡ refusal_answer e }
 {
-    match a {
-        RecordVerdict::Restored => Answer::Done,
-        RecordVerdict::Malformed => Answer::Malformed,
-        RecordVerdict::CarTwice => Answer::CarTwice,
-        RecordVerdict::TooLarge => Answer::TooLarge,
+    match e {
+        RecordError::Malformed => Answer::Malformed,
+        RecordError::CarTwice => Answer::CarTwice,
+        RecordError::TooLarge => Answer::TooLarge,
     }
 }
 
+// A record that is refused empties the store.
+#[tactic(auto, using(crate::proofs::Laws::restored_as, crate::proofs::Laws::refused_as))]
 pub fn restore_phone_validations(p: Phones, bytes: &[u8]) -> Listed
     ensures { result ≡ listed_in p (restore bytes.now) }
 {
-    let d = decode_record::decode_phone_validations(bytes);
-    let store = d.store;
-    let told = d.answer;
-    let answer = restore_answer(told);
-    let raised = state::replies::phone_access_changed();
-    let mut phones = p;
-    phones.store = store;
+    let (answer, store) = match decode_record::decode_phone_validations(bytes) {
+        Ok(store) => (Answer::Done, store),
+        Err(e) => (refusal_answer(e), saved_record::empty_store()),
+    };
     Listed {
         answer,
-        raised,
+        raised: state::replies::phone_access_changed(),
         stores: false,
-        phones,
+        phones: Phones { store, ..p },
     }
 }

@@ -7,7 +7,7 @@ use Rattle.arrays.specs.Arrays.{same_bytes}
 use Rattle.phones.specs.Ids.{some_of}
 use Rattle.phone_fields.specs.PhoneFields.{before, read_fields, any_long, over_limits}
 use Rattle.saved_record.specs.SavedRecord.{malformed, car_twice, ok, of_car, read_counted, read_after, read_car, read_on, read_cars, read_two, read_version, nothing_after, has_car, twice, over, judged, decoded, record_number}
-use Rattle.saved_record.specs.Store.{refusal, restored}
+use Rattle.saved_record.specs.Store.{restored}
 
 abbrev pub car : List ℕ
 car = replicate 32 0x11
@@ -23,8 +23,8 @@ pub p13 : (x : ℕ) → decoded (the_record ++ (x ∷ [])) ≡ malformed
 unfolding before read_fields of_car read_counted read_after read_car read_on read_cars read_version nothing_after judged decoded
 p13 x = refl
 
-pub p13_number : (x : ℕ) → record_number (restored (decoded (the_record ++ (x ∷ [])))).answer ≡ 22
-unfolding refusal restored
+pub p13_number : (x : ℕ) → record_number (restored (decoded (the_record ++ (x ∷ [])))) ≡ 22
+unfolding restored
 p13_number x = rw (p13 x)
 
 -- one digest under two cars, the first of which has an id of 33 bytes

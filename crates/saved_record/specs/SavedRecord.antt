@@ -1,13 +1,13 @@
 -- The saved record of the validated phones: document 01, "Lists and the saved record" and "Restore", and document 02, W-207;
 -- `encode_phone_validations` and `decode_phone_validations` of phone_trust.rs. A car is its digest, a phone its id's bytes.
-use Rattle.std.specs.Prelude.{Bool, true, false, cond, List, [], ◌∷◌, ◌++◌, ℕ, zero, suc, eqb, ltb, length, take, drop}
+use Rattle.std.specs.Prelude.{Bool, true, false, cond, List, [], ◌∷◌, ◌++◌, ℕ, zero, suc, eqb, ltb, length, take, drop, Result, Ok, Err}
 use Rattle.std.proofs.Math.Option.{Option, none, some}
 use Rattle.arrays.specs.Arrays.{padded, same_bytes}
 use Rattle.phones.specs.Ids.{some_of}
 use Rattle.phone_fields.specs.PhoneFields.{fields, Read, not_whole, whole, before, PhonesRead, read_fields, over_limits}
 use Rattle.saved_record.specs.declared.SavedRecord.{SavedRecord}
-use Rattle.saved_record.specs.declared.RecordVerdict.{RecordVerdict}
-use Rattle.saved_record.specs.declared.RecordVerdict.TheVariants.{Restored, Malformed, CarTwice, TooLarge}
+use Rattle.saved_record.specs.declared.RecordError.{RecordError}
+use Rattle.saved_record.specs.declared.RecordError.TheVariants.{Malformed, CarTwice, TooLarge}
 
 -- a car and the phones that are validated for it; a store is a list of them, "in order of first validation"
 pub record CarIds : Type 0 where
@@ -115,8 +115,8 @@ unfoldable pub decoded : List ℕ → Reading
 decoded r = judged (nothing_after (read_version r))
 
 -- the port's numbers of the refusals, and 0 for none
-abbrev pub record_number : RecordVerdict → ℕ
-record_number Restored = 0
-record_number Malformed = 22
-record_number CarTwice = 28
-record_number TooLarge = 23
+abbrev pub record_number : {A : Type 0} → Result A RecordError → ℕ
+record_number (Ok x) = 0
+record_number (Err Malformed) = 22
+record_number (Err CarTwice) = 28
+record_number (Err TooLarge) = 23

@@ -1,13 +1,12 @@
 -- How the store lies in memory: `cars_of` reads one, `store_of` is the canonical store of some cars. A car past the count is not
 -- looked at, and reading ends with the array.
-use Rattle.std.specs.Prelude.{List, [], map, length, take, replicate}
+use Rattle.std.specs.Prelude.{List, [], map, length, take, replicate, Result, Ok, Err}
 use Rattle.arrays.specs.Arrays.{padded}
 use Rattle.phones.specs.Phones.{phones_of, list_of}
 use Rattle.saved_record.specs.declared.CarPhones.{CarPhones}
 use Rattle.saved_record.specs.declared.Store.{Store}
-use Rattle.saved_record.specs.declared.RecordVerdict.{RecordVerdict}
-use Rattle.saved_record.specs.declared.RecordVerdict.TheVariants.{Restored, Malformed, CarTwice, TooLarge}
-use Rattle.saved_record.specs.declared.Decoded.{Decoded}
+use Rattle.saved_record.specs.declared.RecordError.{RecordError}
+use Rattle.saved_record.specs.declared.RecordError.TheVariants.{Malformed, CarTwice, TooLarge}
 use Rattle.saved_record.specs.SavedRecord.{CarIds, Reading, malformed, car_twice, too_large, ok}
 
 -- ---- a car
@@ -34,12 +33,8 @@ store_of cs = record { cars = padded 4 empty_car (map laid_car cs); count = leng
 
 -- ---- what reading a record gives
 
--- "the store is emptied as for 22": a refusal holds no car
-unfoldable pub refusal : RecordVerdict → Decoded
-refusal answer = record { answer = answer; store = store_of [] }
-
-unfoldable pub restored : Reading → Decoded
-restored malformed = refusal Malformed
-restored car_twice = refusal CarTwice
-restored too_large = refusal TooLarge
-restored (ok cs) = record { answer = Restored; store = store_of cs }
+unfoldable pub restored : Reading → Result Store RecordError
+restored malformed = Err Malformed
+restored car_twice = Err CarTwice
+restored too_large = Err TooLarge
+restored (ok cs) = Ok (store_of cs)

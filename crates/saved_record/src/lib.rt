@@ -30,42 +30,39 @@ pub struct SavedRecord {
     pub len: usize,
 }
 
-#[derive(Clone, Copy)]
-pub enum RecordVerdict {
-    Restored,
+// Why a record says no store.
+#[derive(Clone, Copy, PartialEq, Eq)]
+pub enum RecordError {
     Malformed,
     CarTwice,
     TooLarge,
-}
-
-// What a record says. Where it is refused, the store is empty.
-#[derive(Clone, Copy)]
-pub struct Decoded {
-    pub answer: RecordVerdict,
-    pub store: Store,
 }
 
 // A count of cars, at most 4.
 pub fn clamp_cars(n: usize) -> usize
     ensures { result ≡ min n 4 }
 {
-    if n < 4 { n } else { 4 }
+    n.min(4)
 }
 
+#[tactic(auto, unfolding(crate::specs::Store::empty_car))]
 pub fn empty_car() -> CarPhones
     ensures { result ≡ empty_car }
 {
-    let car = [0u8; 32];
-    let phones = phones::empty_list();
-    CarPhones { car, phones }
+    CarPhones {
+        car: [0; 32],
+        phones: phones::empty_list(),
+    }
 }
 
+#[tactic(auto, unfolding(crate::specs::Store::store_of, arrays::specs::Arrays::padded))]
 pub fn empty_store() -> Store
     ensures { result ≡ store_of [] }
 {
-    let none = empty_car();
-    let cars = [none; 4];
-    Store { cars, count: 0 }
+    Store {
+        cars: [empty_car(); 4],
+        count: 0,
+    }
 }
 
 // Whether two digests are equal.
@@ -79,13 +76,11 @@ pub fn same_car(a: [u8; 32], b: [u8; 32]) -> bool
 pub fn is_car(used: bool, theirs: [u8; 32], car: [u8; 32]) -> bool
     ensures { result ≡ (used && same_bytes theirs car) }
 {
-    if used {
-        return same_car(theirs, car);
-    }
-    false
+    used && same_car(theirs, car)
 }
 
 // Whether one digest stands at two of the places in use.
+#[tactic(auto, unfolding(crate::specs::Steps::twice_at))]
 fn digest_twice(
     n: usize,
     first: [u8; 32],
@@ -95,47 +90,30 @@ fn digest_twice(
 ) -> bool
     ensures { result ≡ twice_at n first second third fourth }
 {
-    if is_car(1 < n, second, first) {
-        return true;
-    }
-    if is_car(2 < n, third, first) {
-        return true;
-    }
-    if is_car(3 < n, fourth, first) {
-        return true;
-    }
-    if is_car(2 < n, third, second) {
-        return true;
-    }
-    if is_car(3 < n, fourth, second) {
-        return true;
-    }
-    if is_car(3 < n, fourth, third) {
-        return true;
-    }
-    false
+    is_car(1 < n, second, first)
+        || is_car(2 < n, third, first)
+        || is_car(3 < n, fourth, first)
+        || is_car(2 < n, third, second)
+        || is_car(3 < n, fourth, second)
+        || is_car(3 < n, fourth, third)
 }
 
 // Whether two cars in use have one digest. The places are written out, here and where a call looks for its car: at a running place
 // the array would be copied whole.
+#[tactic(auto, using(crate::proofs::Laws::twice_at_lem, arrays::proofs::Laws::long_map))]
 pub fn car_twice(store: Store) -> bool
     ensures { result ≡ twice (cars_of store) }
 {
-    let cars = store.cars;
-    let one = cars[0];
-    let two = cars[1];
-    let three = cars[2];
-    let four = cars[3];
-    let first = one.car;
-    let second = two.car;
-    let third = three.car;
-    let fourth = four.car;
-    digest_twice(store.count, first, second, third, fourth)
+    let [first, second, third, fourth] = store.cars;
+    digest_twice(store.count, first.car, second.car, third.car, fourth.car)
 }
 
+#[tactic(auto, unfolding(crate::specs::SavedRecord::no_record, crate::specs::SavedRecord::record_of, arrays::specs::Arrays::padded))]
 pub fn no_record() -> SavedRecord
     ensures { result ≡ no_record }
 {
-    let bytes = [0u8; 4358];
-    SavedRecord { bytes, len: 0 }
+    SavedRecord {
+        bytes: [0; 4358],
+        len: 0,
+    }
 }
