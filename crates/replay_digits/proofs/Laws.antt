@@ -3,7 +3,7 @@ use Rattle.std.specs.List.{list_all}
 use Rattle.std.proofs.Common.{◌≡◌, ◌&&◌, refl, ap, sym, ◌∙◌, Bool, true, false, cond, List, [], ◌∷◌, ℕ, zero, suc, ◌+◌, ◌*◌, ◌/◌, ◌%◌, ◌≤◌, ◌<◌, eqb, ltb, leb, length, drop, get_or, replicate, Option, Some, None, add-one, arith, drop-cons}
 use native.Mathlib.Nat.{sub-zero}
 use Rattle.std.proofs.lemmas.Bool.Decides.{nat_tests}
-use borrow.Author.Tests.{ltb-false, lt-ltb, le-ltb, le-leb, lt-leb}
+use borrow.Author.Tests.{eqb-false, ltb-false, lt-ltb, le-ltb, le-leb, lt-leb}
 use lib.ListN.{drop_of_length-le}
 use Rattle.arrays.specs.Arrays.{padded, put}
 use Rattle.arrays.proofs.Laws.{put_padded}
@@ -73,6 +73,10 @@ digit_at (b ∷ bs) (suc k) e h = digit_at bs k (then_true (ltb 15 (digit_of b))
 pub hex_at : (s : List ℕ) (k : ℕ) → is_hex s ≡ true → k < length s → digit_of (get_or s k 0) ≤ 15
 unfolding is_hex
 hex_at s k e h = digit_at s k (then_true (eqb (length s % 2) 1) (all_digits s) e) h
+
+pub hex_even : (s : List ℕ) → is_hex s ≡ true → length s % 2 ≡ 0
+unfolding is_hex
+hex_even s e = omega (arith, eqb-false (length s % 2) 1 (first_false (eqb (length s % 2) 1) (all_digits s) e))
 
 pub pairs_length : (s : List ℕ) → length (pairs_of s) ≡ length s / 2
 unfolding pairs_of

@@ -1,17 +1,12 @@
 -- Laws of the definitions of specs/. Nothing stands for the value of no item.
-use mathlib.Core.Path.{◌≡◌, refl, ap, ◌∙◌}
-use mathlib.Core.List.{List, [], ◌∷◌, ◌++◌, append-nil}
-use Prim.Native.Nat.{ℕ, ◌-◌}
-use native.Mathlib.Omega.{arith}
-use lib.ListN.{length, replicate}
+use Rattle.std.proofs.Common.{◌≡◌, ◌*◌, ◌/◌, true, refl, ap, ◌∙◌, List, [], ◌∷◌, ◌++◌, ℕ, ◌-◌, length, replicate, Option, Some, None, arith}
+use mathlib.Core.List.{append-nil}
+use borrow.Author.Tests.{eq-eqb}
 use Rattle.arrays.specs.Arrays.{padded, put, same_bytes}
 use Rattle.replay_script.specs.Places.{first_of}
-use Rattle.replay_digits.proofs.Laws.{put_zeros}
-use Rattle.replay_values.specs.declared.CanId.TheVariants.{NoId}
-use Rattle.replay_digits.specs.declared.Number.{Number}
-use Rattle.replay_digits.specs.declared.Number.TheVariants.{Given, NoNumber}
-use Rattle.replay_digits.specs.Digits.{number_in}
-use Rattle.replay_values.specs.Values.{flag_in, id_with, id_in, data_in, car_in, the_number, the_flag, the_id, the_data, the_car}
+use Rattle.replay_digits.proofs.Laws.{put_zeros, pairs_length, hex_even}
+use Rattle.replay_digits.specs.Digits.{number_in, is_hex, pairs_of}
+use Rattle.replay_values.specs.Values.{bytes_in, flag_in, id_with, id_in, data_in, car_in, the_number, the_flag, the_id, the_data, the_car}
 
 pub number_first : (most : ℕ) (vs : List (List ℕ)) → number_in 10 most (first_of vs) ≡ the_number most vs
 unfolding first_of number_in
@@ -23,10 +18,10 @@ unfolding first_of flag_in same_bytes
 flag_first [] = refl
 flag_first (v ∷ vs) = refl
 
-no_kind : (x : Number) → id_with [] x ≡ NoId
+no_kind : (x : Option ℕ) → id_with [] x ≡ None
 unfolding same_bytes
-no_kind (Given n) = refl
-no_kind NoNumber = refl
+no_kind (Some n) = refl
+no_kind None = refl
 
 pub id_first : (ks ns : List (List ℕ)) → id_in (first_of ks) (first_of ns) ≡ the_id ks ns
 unfolding first_of id_in number_in
@@ -50,3 +45,9 @@ unfolding padded
 put_all n s h =
     let e : n - length s ≡ 0 = omega arith in
     put_zeros n s ∙ (ap (λ (m : ℕ). s ++ replicate m 0) e ∙ append-nil s)
+
+-- as many pairs as bytes are wanted
+pub bytes_made : (n : ℕ) (s : List ℕ) → length s / 2 ≡ n → is_hex s ≡ true → Some (put (replicate n 0) 0 (pairs_of s)) ≡ bytes_in n s
+bytes_made n s h e =
+    let k : length s ≡ 2 * n = omega (arith, hex_even s e) in
+    rw (eq-eqb _ _ k, e, put_all n (pairs_of s) (omega (arith, pairs_length s)))

@@ -1,77 +1,73 @@
 -- What the value of an item says. A value that may be missing is a list of one or none.
-use Rattle.std.specs.Prelude.{Bool, true, false, cond, List, [], ◌∷◌, ℕ, eqb, length, replicate}
+use Rattle.std.specs.Prelude.{Bool, true, false, cond, List, [], ◌∷◌, ℕ, ◌*◌, eqb, length, replicate, Option, Some, None, option_map}
 use Rattle.arrays.specs.Arrays.{same_bytes}
+use Rattle.frames.specs.declared.Id.{Id}
 use Rattle.frames.specs.declared.Id.TheVariants.{Standard, Extended}
+use Rattle.state.specs.declared.Car.{Car}
 use Rattle.ascii.specs.Ascii.{ascii}
 use Rattle.replay_digits.specs.Digits.{number_in, is_hex, pairs_of, laid_to, lay_bytes}
-use Rattle.replay_values.specs.declared.CanId.{CanId}
-use Rattle.replay_values.specs.declared.CanId.TheVariants.{Is, NoId}
-use Rattle.replay_values.specs.declared.CarItem.{CarItem}
-use Rattle.replay_values.specs.declared.Data.{Data}
-use Rattle.replay_values.specs.declared.Flag.{Flag}
-use Rattle.replay_values.specs.declared.Flag.TheVariants.{Yes, No, NoFlag}
-use Rattle.replay_digits.specs.declared.Laid.{Laid}
-use Rattle.replay_digits.specs.declared.Laid.TheVariants.{NoBytes}
-use Rattle.replay_digits.specs.declared.Number.{Number}
-use Rattle.replay_digits.specs.declared.Number.TheVariants.{Given, NoNumber}
 use Rattle.replay_digits.specs.declared.Written.{Written}
 
+-- exactly n bytes
+abbrev pub bytes_in : ℕ → List ℕ → Option (List ℕ)
+bytes_in n s = cond (cond (eqb (length s) (2 * n)) (is_hex s) false) (Some (pairs_of s)) None
+
 -- exactly 8 bytes
-unfoldable pub data_in : List ℕ → Data
-data_in s = cond (cond (eqb (length s) 16) (is_hex s) false) (record { ok = true; bytes = pairs_of s }) (record { ok = false; bytes = replicate 8 0 })
+unfoldable pub data_in : List ℕ → Option (List ℕ)
+data_in s = bytes_in 8 s
+
+abbrev pub known_car : List ℕ → Car
+known_car digest = record { known = true; digest = digest }
 
 -- the word `none`, or exactly 32 bytes
-unfoldable pub car_in : List ℕ → CarItem
-car_in s =
-    cond (same_bytes s (ascii "none")) (record { ok = true; car = record { known = false; digest = replicate 32 0 } })
-    (cond (cond (eqb (length s) 64) (is_hex s) false) (record { ok = true; car = record { known = true; digest = pairs_of s } })
-    (record { ok = false; car = record { known = false; digest = replicate 32 0 } }))
+unfoldable pub car_in : List ℕ → Option Car
+car_in s = cond (same_bytes s (ascii "none")) (Some (record { known = false; digest = replicate 32 0 })) (option_map known_car (bytes_in 32 s))
 
 -- ---- words
 
-unfoldable pub flag_in : List ℕ → Flag
-flag_in s = cond (same_bytes s (ascii "yes")) Yes (cond (same_bytes s (ascii "no")) No NoFlag)
+unfoldable pub flag_in : List ℕ → Option Bool
+flag_in s = cond (same_bytes s (ascii "yes")) (Some true) (cond (same_bytes s (ascii "no")) (Some false) None)
 
 -- an id's number under its kind
-abbrev pub id_with : List ℕ → Number → CanId
-id_with kind (Given n) = cond (same_bytes kind (ascii "std")) (Is (Standard n)) (cond (same_bytes kind (ascii "ext")) (Is (Extended n)) NoId)
-id_with kind NoNumber = NoId
+abbrev pub id_with : List ℕ → Option ℕ → Option Id
+id_with kind (Some n) = cond (same_bytes kind (ascii "std")) (Some (Standard n)) (cond (same_bytes kind (ascii "ext")) (Some (Extended n)) None)
+id_with kind None = None
 
 -- the kind of an id, and its number of 32 bits in hexadecimal
-unfoldable pub id_in : List ℕ → List ℕ → CanId
+unfoldable pub id_in : List ℕ → List ℕ → Option Id
 id_in kind digits = id_with kind (number_in 16 4294967295 digits)
 
 -- ---- the value of the only item with a key, or of none
 
-abbrev pub the_number : ℕ → List (List ℕ) → Number
-the_number most [] = NoNumber
+abbrev pub the_number : ℕ → List (List ℕ) → Option ℕ
+the_number most [] = None
 the_number most (v ∷ vs) = number_in 10 most v
 
-abbrev pub the_bytes : Written → List (List ℕ) → ℕ → ℕ → Laid
-the_bytes form [] at room = NoBytes
+abbrev pub the_bytes : Written → List (List ℕ) → ℕ → ℕ → Option ℕ
+the_bytes form [] at room = None
 the_bytes form (v ∷ vs) at room = laid_to form v at room
 
 abbrev pub lay_the_bytes : Written → List (List ℕ) → ℕ → List ℕ → List ℕ
 lay_the_bytes form [] at out = out
 lay_the_bytes form (v ∷ vs) at out = lay_bytes form v at out
 
-abbrev pub the_flag : List (List ℕ) → Flag
-the_flag [] = NoFlag
+abbrev pub the_flag : List (List ℕ) → Option Bool
+the_flag [] = None
 the_flag (v ∷ vs) = flag_in v
 
 abbrev pub is_the_word : List ℕ → List (List ℕ) → Bool
 is_the_word word [] = false
 is_the_word word (v ∷ vs) = same_bytes v word
 
-abbrev pub the_id : List (List ℕ) → List (List ℕ) → CanId
-the_id [] ns = NoId
-the_id (k ∷ ks) [] = NoId
+abbrev pub the_id : List (List ℕ) → List (List ℕ) → Option Id
+the_id [] ns = None
+the_id (k ∷ ks) [] = None
 the_id (k ∷ ks) (n ∷ ns) = id_in k n
 
-abbrev pub the_data : List (List ℕ) → Data
-the_data [] = record { ok = false; bytes = replicate 8 0 }
+abbrev pub the_data : List (List ℕ) → Option (List ℕ)
+the_data [] = None
 the_data (v ∷ vs) = data_in v
 
-abbrev pub the_car : List (List ℕ) → CarItem
-the_car [] = record { ok = false; car = record { known = false; digest = replicate 32 0 } }
+abbrev pub the_car : List (List ℕ) → Option Car
+the_car [] = None
 the_car (v ∷ vs) = car_in v
