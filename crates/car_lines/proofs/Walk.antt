@@ -9,7 +9,9 @@ use lib.Seq.{drop-append_seam, drop-drop, take-append_seam}
 use Rattle.ascii.specs.Ascii.{ascii}
 use Rattle.arrays.specs.Arrays.{put}
 use Rattle.hexadecimal.specs.Hex.{hex_of}
-use Rattle.reader.specs.declared.Field.TheVariants.{Whole, Short, End}
+use Rattle.std.specs.Prelude.{Ok, Err}
+use Rattle.reader.specs.declared.Field.{Field}
+use Rattle.reader.specs.declared.FieldError.{FieldError}
 use Rattle.reader.specs.Reader.{field_at}
 use Rattle.reader.proofs.Laws.{field_whole}
 use Rattle.phone_fields.specs.PhoneFields.{field, fields}
@@ -17,6 +19,7 @@ use Rattle.phone_fields.proofs.Writing.{put_put}
 use Rattle.saved_record.specs.SavedRecord.{CarIds, car_part}
 use Rattle.saved_record.proofs.Parts.{part_length}
 use Rattle.car_lines.specs.Lines.{line, phone_lines}
+use Rattle.car_lines.specs.declared.Places.{Places}
 use Rattle.car_lines.specs.Walk.{Wrote, WroteFrom, Stands, ids_from, place_from}
 use Rattle.car_lines.proofs.Laws.{put_nil}
 
@@ -27,42 +30,32 @@ unfolding ids_from
 ids_none zero s at h = refl
 ids_none (suc n) s at h = absurd (omega arith)
 
-pub ids_short : (n : ℕ) (s : List ℕ) (at : ℕ) → field_at s at ≡ Short → ids_from n s at ≡ []
+pub ids_err : (n : ℕ) (s : List ℕ) (at : ℕ) (r : FieldError) → Err r ≡ field_at s at → ids_from n s at ≡ []
 unfolding ids_from
-ids_short zero s at e = refl
-ids_short (suc n) s at e = rw e
-
-pub ids_end : (n : ℕ) (s : List ℕ) (at : ℕ) → field_at s at ≡ End → ids_from n s at ≡ []
-unfolding ids_from
-ids_end zero s at e = refl
-ids_end (suc n) s at e = rw e
+ids_err zero s at r e = refl
+ids_err (suc n) s at r e = rw (← e)
 
 -- the part of the record that is taken is the field's
-pub ids_whole : (n : ℕ) (s : List ℕ) (at start len next : ℕ) → 0 < n → field_at s at ≡ Whole start len next
-    → ids_from n s at ≡ take (start + len - start) (drop start s) ∷ ids_from (n - 1) s next
+pub ids_ok : (n : ℕ) (s : List ℕ) (at : ℕ) (f : Field) → 0 < n → Ok f ≡ field_at s at
+    → ids_from n s at ≡ take (f.start + f.len - f.start) (drop f.start s) ∷ ids_from (n - 1) s f.next
 unfolding ids_from
-ids_whole zero s at start len next h e = absurd (omega arith)
-ids_whole (suc n) s at start len next h e = let l : start + len - start ≡ len = omega arith in rw (e, sub-one (suc n), l)
+ids_ok zero s at f h e = absurd (omega arith)
+ids_ok (suc n) s at f h e = let l : f.start + f.len - f.start ≡ f.len = omega arith in rw (← e, sub-one (suc n), l)
 
 pub place_none : (n : ℕ) (s : List ℕ) (at : ℕ) → n ≤ 0 → place_from n s at ≡ at
 unfolding place_from
 place_none zero s at h = refl
 place_none (suc n) s at h = absurd (omega arith)
 
-pub place_short : (n : ℕ) (s : List ℕ) (at : ℕ) → field_at s at ≡ Short → place_from n s at ≡ at
+pub place_err : (n : ℕ) (s : List ℕ) (at : ℕ) (r : FieldError) → Err r ≡ field_at s at → place_from n s at ≡ at
 unfolding place_from
-place_short zero s at e = refl
-place_short (suc n) s at e = rw e
+place_err zero s at r e = refl
+place_err (suc n) s at r e = rw (← e)
 
-pub place_end : (n : ℕ) (s : List ℕ) (at : ℕ) → field_at s at ≡ End → place_from n s at ≡ at
+pub place_ok : (n : ℕ) (s : List ℕ) (at : ℕ) (f : Field) → 0 < n → Ok f ≡ field_at s at → place_from n s at ≡ place_from (n - 1) s f.next
 unfolding place_from
-place_end zero s at e = refl
-place_end (suc n) s at e = rw e
-
-pub place_whole : (n : ℕ) (s : List ℕ) (at start len next : ℕ) → 0 < n → field_at s at ≡ Whole start len next → place_from n s at ≡ place_from (n - 1) s next
-unfolding place_from
-place_whole zero s at start len next h e = absurd (omega arith)
-place_whole (suc n) s at start len next h e = rw (e, sub-one (suc n))
+place_ok zero s at f h e = absurd (omega arith)
+place_ok (suc n) s at f h e = rw (← e, sub-one (suc n))
 
 -- over the fields of some phones the reader meets those phones, and comes to the place after them, whatever follows
 pub walk_fields : (ps : List (List ℕ)) (s : List ℕ) (at : ℕ) (rest : List ℕ) → drop at s ≡ fields ps ++ rest → (ids_from (length ps) s at ≡ ps) × (place_from (length ps) s at ≡ at + length (fields ps))
@@ -176,29 +169,34 @@ abbrev pub id_line : List ℕ → ℕ → ℕ → List ℕ
 id_line s start len = line (ascii "phone=") (hex_of (take (start + len - start) (drop start s)))
 
 -- where the loop over the phones stands: the lines of the ids that are left, and the place after them
-pub record Walking (dst₀ : List ℕ) (at : ℕ) (s : List ℕ) (from count : ℕ) (dst : List ℕ) (end next left : ℕ) : Type 0 where
-  pub going : Going dst₀ at (phone_lines (ids_from count s from)) dst end (phone_lines (ids_from left s next))
-  pub place : place_from count s from ≡ place_from left s next
+pub record Walking (dst₀ : List ℕ) (at : ℕ) (s : List ℕ) (from count : ℕ) (dst : List ℕ) (p : Places) (left : ℕ) : Type 0 where
+  pub going : Going dst₀ at (phone_lines (ids_from count s from)) dst p.end (phone_lines (ids_from left s p.next))
+  pub place : place_from count s from ≡ place_from left s p.next
 
-pub walking_first : (dst : List ℕ) (at : ℕ) (s : List ℕ) (from count : ℕ) → at + length (phone_lines (ids_from count s from)) ≤ length dst → Walking dst at s from count dst at from count
+pub walking_first : (dst : List ℕ) (at : ℕ) (s : List ℕ) (from count : ℕ) → at + length (phone_lines (ids_from count s from)) ≤ length dst
+    → Walking dst at s from count dst (record { end = at; next = from }) count
 walking_first dst at s from count h = record { going = going_first dst at (phone_lines (ids_from count s from)) h; place = refl }
 
-module _ (dst₀ : List ℕ) (at : ℕ) (s : List ℕ) (from count : ℕ) (dst : List ℕ) (end next left : ℕ) (w : Walking dst₀ at s from count dst end next left) where
-  module _ (start len after : ℕ) (some : 0 < left) (e : field_at s next ≡ Whole start len after) where
-    first : phone_lines (ids_from left s next) ≡ id_line s start len ++ phone_lines (ids_from (left - 1) s after)
-    first = first_line (ids_from left s next) (take (start + len - start) (drop start s)) (ids_from (left - 1) s after) (ids_whole left s next start len after some e)
+module _ (dst₀ : List ℕ) (at : ℕ) (s : List ℕ) (from count : ℕ) (dst : List ℕ) (p : Places) (left : ℕ) (w : Walking dst₀ at s from count dst p left) where
+  module _ (f : Field) (some : 0 < left) (e : Ok f ≡ field_at s p.next) where
+    first : phone_lines (ids_from left s p.next) ≡ id_line s f.start f.len ++ phone_lines (ids_from (left - 1) s f.next)
+    first = first_line (ids_from left s p.next) (take (f.start + f.len - f.start) (drop f.start s)) (ids_from (left - 1) s f.next) (ids_ok left s p.next f some e)
 
-    pub walking_fits : end + length (id_line s start len) ≤ length dst
-    walking_fits = going_fits dst₀ at (phone_lines (ids_from count s from)) dst end (phone_lines (ids_from left s next)) w.going (id_line s start len) (phone_lines (ids_from (left - 1) s after)) first
+    pub walking_fits : p.end + length (id_line s f.start f.len) ≤ length dst
+    walking_fits =
+        going_fits dst₀ at (phone_lines (ids_from count s from)) dst p.end (phone_lines (ids_from left s p.next)) w.going
+        (id_line s f.start f.len) (phone_lines (ids_from (left - 1) s f.next)) first
 
-    pub walking_on : (dst' : List ℕ) (end' : ℕ) → Wrote dst end (id_line s start len) dst' end' → length dst' ≡ length dst
-        → Walking dst₀ at s from count dst' end' after (left - 1)
+    pub walking_on : (dst' : List ℕ) (end' : ℕ) → Wrote dst p.end (id_line s f.start f.len) dst' end' → length dst' ≡ length dst
+        → Walking dst₀ at s from count dst' (record { end = end'; next = f.next }) (left - 1)
     walking_on dst' end' v l =
         record {
-          going = going_on dst₀ at (phone_lines (ids_from count s from)) dst end (phone_lines (ids_from left s next)) w.going (id_line s start len) (phone_lines (ids_from (left - 1) s after)) first dst' end' v l;
-          place = w.place ∙ place_whole left s next start len after some e;
+          going =
+              going_on dst₀ at (phone_lines (ids_from count s from)) dst p.end (phone_lines (ids_from left s p.next)) w.going
+              (id_line s f.start f.len) (phone_lines (ids_from (left - 1) s f.next)) first dst' end' v l;
+          place = w.place ∙ place_ok left s p.next f some e;
         }
 
-  pub walking_done : ids_from left s next ≡ [] → place_from left s next ≡ next → WroteFrom dst₀ at (phone_lines (ids_from count s from)) dst (place_from count s from) (record { end = end; next = next })
-  walking_done e p =
-      record { wrote = going_done dst₀ at _ dst end _ w.going (no_line (ids_from left s next) e); read = sym (w.place ∙ p) }
+  pub walking_done : ids_from left s p.next ≡ [] → place_from left s p.next ≡ p.next → WroteFrom dst₀ at (phone_lines (ids_from count s from)) dst (place_from count s from) p
+  walking_done e q =
+      record { wrote = going_done dst₀ at _ dst p.end _ w.going (no_line (ids_from left s p.next) e); read = sym (w.place ∙ q) }

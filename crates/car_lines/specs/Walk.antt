@@ -1,8 +1,8 @@
 -- What the functions of the code give: what was written where, and the ids that a reader meets.
-use Rattle.std.specs.Prelude.{◌≡◌, List, [], ◌∷◌, ◌++◌, ℕ, zero, suc, ◌+◌, length, take, drop}
+use Rattle.std.specs.Prelude.{◌≡◌, List, [], ◌∷◌, ◌++◌, ℕ, zero, suc, ◌+◌, length, take, drop, Result, Ok, Err}
 use Rattle.arrays.specs.Arrays.{put}
 use Rattle.reader.specs.declared.Field.{Field}
-use Rattle.reader.specs.declared.Field.TheVariants.{Whole, Short, End}
+use Rattle.reader.specs.declared.FieldError.{FieldError}
 use Rattle.reader.specs.Reader.{field_at}
 use Rattle.car_lines.specs.declared.Places.{Places}
 
@@ -21,10 +21,9 @@ abbrev pub Stands : List ℕ → ℕ → List ℕ → Type 0
 Stands s at x = drop at s ≡ x ++ drop (at + length x) s
 
 -- the bytes of a field, and those of the fields after it
-abbrev pub with_field : List ℕ → Field → (ℕ → List (List ℕ)) → List (List ℕ)
-with_field s (Whole start len next) rest = take len (drop start s) ∷ rest next
-with_field s Short rest = []
-with_field s End rest = []
+abbrev pub with_field : List ℕ → Result Field FieldError → (ℕ → List (List ℕ)) → List (List ℕ)
+with_field s (Ok f) rest = take f.len (drop f.start s) ∷ rest f.next
+with_field s (Err e) rest = []
 
 -- the ids that a reader meets from `at` on, at most n of them
 unfoldable pub ids_from : ℕ → List ℕ → ℕ → List (List ℕ)
@@ -32,10 +31,9 @@ ids_from zero s at = []
 ids_from (suc n) s at = with_field s (field_at s at) (ids_from n s)
 
 -- the place after a field, and after the fields that follow it; none is passed that is not whole
-abbrev pub after_field : ℕ → Field → (ℕ → ℕ) → ℕ
-after_field at (Whole start len next) rest = rest next
-after_field at Short rest = at
-after_field at End rest = at
+abbrev pub after_field : ℕ → Result Field FieldError → (ℕ → ℕ) → ℕ
+after_field at (Ok f) rest = rest f.next
+after_field at (Err e) rest = at
 
 -- the place after the ids that a reader meets from `at` on, at most n of them
 unfoldable pub place_from : ℕ → List ℕ → ℕ → ℕ

@@ -1,8 +1,5 @@
 -- Three texts, each after the one before; the reader meets the phones of the car after the 33 bytes before them.
-use mathlib.Core.Path.{◌≡◌}
-use native.Mathlib.Omega.{arith}
-use borrow.Author.Rules.{rules}
-use lib.ListN.{length}
+use Rattle.std.proofs.Common.{◌≡◌, length, arith, rules}
 use Rattle.saved_record.specs.SavedRecord.{car_part}
 use Rattle.saved_record.specs.Store.{car_of}
 use Rattle.saved_record.proofs.Parts.{part_length}
@@ -10,16 +7,16 @@ use Rattle.car_lines.proofs.Car.{lines_parts, car_written}
 use Rattle.car_lines.proofs.Walk.{stands_within, car_walk}
 use Rattle.car_lines.proofs.put_car.Goals as goal
 
-pub put_hex_line-a-requires : goal.put_hex_line-a-requires
+pub put_hex_line-first-requires : goal.put_hex_line-first-requires
 unfolding car_of
-put_hex_line-a-requires c = let l = lines_parts (car_of c.args.c) in let h = c.requires.1 in omega arith
+put_hex_line-first-requires c = let l = lines_parts (car_of c.args.c) in let h = c.requires.1 in omega arith
 
-pub put_number_line-b-requires : goal.put_number_line-b-requires
+pub put_number_line-second-requires : goal.put_number_line-second-requires
 unfolding car_of
-put_number_line-b-requires c =
+put_number_line-second-requires c =
     let l = lines_parts (car_of c.args.c) in
     let h = c.requires.1 in
-    let w = c.put_hex_line-a in
+    let w = c.put_hex_line-first in
     let p = w.ensures.place in
     let k = w.auto.dst in
     rw c.count-count.ensures (omega arith)
@@ -37,8 +34,8 @@ unfolding car_of
 put_phones-requires c =
     let l = lines_parts (car_of c.args.c) in
     let h = c.requires.1 in
-    let w = c.put_hex_line-a in
-    let v = c.put_number_line-b in
+    let w = c.put_hex_line-first in
+    let v = c.put_number_line-second in
     let p = w.ensures.place in
     let k = w.auto.dst in
     let n = c.count-count.ensures in
@@ -53,8 +50,8 @@ returns c =
     let a = c.args in
     let far : length a.c.car ≡ 32 = search rules in
     let walk = car_walk a.saved.now a.from (car_of a.c) far c.requires.0 in
-    let w = c.put_hex_line-a in
-    let v = c.put_number_line-b in
+    let w = c.put_hex_line-first in
+    let v = c.put_number_line-second in
     let u = c.put_phones in
     let n = c.count-count.ensures in
     let third = rw (n, walk.0, walk.1) at u.ensures in

@@ -1,7 +1,4 @@
--- `listing::put_hex_line` meets its contract. Assumes nothing.
-use Prim.Native.Nat.{◌+◌, ◌*◌}
-use native.Mathlib.Omega.{arith}
-use lib.ListN.{length}
+use Rattle.std.proofs.Common.{◌+◌, ◌*◌, length, arith}
 use Rattle.hexadecimal.specs.Hex.{hex_of}
 use Rattle.hexadecimal.proofs.Laws.{hex_length}
 use Rattle.car_lines.proofs.Laws.{line_length_lem, wrote_line}
@@ -16,8 +13,8 @@ put_hex-requires c = let a = c.args in omega (arith, line_length_lem a.name.now 
 pub overflow_add-from : goal.overflow_add-from
 overflow_add-from c = let a = c.args in omega (arith, line_length_lem a.name.now (hex_of a.bytes.now), hex_length a.bytes.now)
 
-pub put_end-requires : goal.put_end-requires
-put_end-requires c = let a = c.args in omega (arith, line_length_lem a.name.now (hex_of a.bytes.now), hex_length a.bytes.now)
+pub put_text-requires : goal.put_text-requires
+put_text-requires c = let a = c.args in omega (arith, line_length_lem a.name.now (hex_of a.bytes.now), hex_length a.bytes.now)
 
 pub returns : goal.returns
 returns c =
@@ -26,7 +23,7 @@ returns c =
     let value = hex_of a.bytes.now in
     let w = c.put_text-from in
     let v = c.put_hex in
-    let u = c.put_end in
+    let u = c.put_text in
     let h = hex_length a.bytes.now in
     let end = w.result + 2 * length a.bytes.now in
     wrote_line a.dst.now a.at name value w.new.dst w.result v.new.dst end u.new.dst u.result

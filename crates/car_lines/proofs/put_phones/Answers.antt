@@ -1,53 +1,44 @@
-use mathlib.Core.Path.{sym, ◌∙◌}
-use native.Mathlib.Omega.{arith}
+use Rattle.std.proofs.Common.{◌≡◌, ◌+◌, ◌-◌, sym, arith}
+use Rattle.std.proofs.Math.Nat.{sub-zero}
 use Rattle.reader.proofs.Laws.{field_inside}
-use Rattle.car_lines.proofs.Walk.{walking_first, walking_fits, walking_on, walking_done, ids_none, ids_short, ids_end, place_none, place_short, place_end}
+use Rattle.car_lines.proofs.Walk.{walking_first, walking_fits, walking_on, walking_done, ids_none, ids_err, place_none, place_err}
 use Rattle.car_lines.proofs.put_phones.Goals as goal
 
-pub loop-left-init : goal.loop-left-init
-loop-left-init c = let a = c.args in walking_first a.dst.now a.at a.saved.now a.from a.count (omega arith)
+pub loop-i-init : goal.loop-i-init
+loop-i-init c = let a = c.args in rw sub-zero (walking_first a.dst.now a.at a.saved.now a.from a.count (omega arith))
 
-pub overflow_add-start : goal.overflow_add-start
-overflow_add-start c =
-    let i = field_inside c.args.saved.now c.loop-left.next c.in-Whole.start c.in-Whole.len c.in-Whole.after (sym c.read_field.ensures ∙ c.in-Whole.is) in
-    omega arith
+pub overflow_add-id : goal.overflow_add-id
+overflow_add-id c = omega (arith, field_inside c.args.saved.now c.loop-i.places.next c.in-Ok.field-0 (sym c.in-Ok.ensures))
 
-pub slice_bounds-put_hex_line-end-in-Whole : goal.slice_bounds-put_hex_line-end-in-Whole
-slice_bounds-put_hex_line-end-in-Whole c =
-    let i = field_inside c.args.saved.now c.loop-left.next c.in-Whole.start c.in-Whole.len c.in-Whole.after (sym c.read_field.ensures ∙ c.in-Whole.is) in
-    omega arith
+pub slice_bounds-id-end : goal.slice_bounds-id-end
+slice_bounds-id-end c = omega (arith, field_inside c.args.saved.now c.loop-i.places.next c.in-Ok.field-0 (sym c.in-Ok.ensures))
 
 pub put_hex_line-end-requires : goal.put_hex_line-end-requires
 put_hex_line-end-requires c =
     let a = c.args in
-    let l = c.loop-left in
-    let f = c.in-Whole in
-    walking_fits a.dst.now a.at a.saved.now a.from a.count l.dst l.end l.next l.left l.invariant f.start f.len f.after (omega arith) (sym c.read_field.ensures ∙ f.is)
+    let l = c.loop-i in
+    walking_fits a.dst.now a.at a.saved.now a.from a.count l.dst l.places (a.count - l.i) l.invariant c.in-Ok.field-0 (omega arith) c.in-Ok.ensures
 
-pub loop-left-preserved : goal.loop-left-preserved
-loop-left-preserved c =
+pub loop-i-preserved : goal.loop-i-preserved
+loop-i-preserved c =
     let a = c.args in
-    let l = c.loop-left in
-    let f = c.in-Whole in
+    let l = c.loop-i in
     let w = c.put_hex_line-end in
-    walking_on a.dst.now a.at a.saved.now a.from a.count l.dst l.end l.next l.left l.invariant f.start f.len f.after (omega arith) (sym c.read_field.ensures ∙ f.is) w.new.dst w.result w.ensures w.auto.dst
+    let e : a.count - (l.i + 1) ≡ a.count - l.i - 1 = omega arith in
+    rw e
+    (walking_on a.dst.now a.at a.saved.now a.from a.count l.dst l.places (a.count - l.i) l.invariant c.in-Ok.field-0 (omega arith) c.in-Ok.ensures w.new.dst w.result w.ensures w.auto.dst)
 
-pub returns-in-Short : goal.returns-in-Short
-returns-in-Short c =
+pub returns-after-loop-i : goal.returns-after-loop-i
+returns-after-loop-i c =
     let a = c.args in
-    let l = c.loop-left in
-    let e = sym c.read_field.ensures ∙ c.in-Short.is in
-    walking_done a.dst.now a.at a.saved.now a.from a.count l.dst l.end l.next l.left l.invariant (ids_short l.left a.saved.now l.next e) (place_short l.left a.saved.now l.next e)
+    let l = c.loop-i in
+    walking_done a.dst.now a.at a.saved.now a.from a.count l.dst l.places (a.count - l.i) l.invariant
+    (ids_none (a.count - l.i) a.saved.now l.places.next (omega arith)) (place_none (a.count - l.i) a.saved.now l.places.next (omega arith))
 
-pub returns-in-End : goal.returns-in-End
-returns-in-End c =
+pub returns-in_default : goal.returns-in_default
+returns-in_default c =
     let a = c.args in
-    let l = c.loop-left in
-    let e = sym c.read_field.ensures ∙ c.in-End.is in
-    walking_done a.dst.now a.at a.saved.now a.from a.count l.dst l.end l.next l.left l.invariant (ids_end l.left a.saved.now l.next e) (place_end l.left a.saved.now l.next e)
-
-pub returns : goal.returns
-returns c =
-    let a = c.args in
-    let l = c.loop-left in
-    walking_done a.dst.now a.at a.saved.now a.from a.count l.dst l.end l.next l.left l.invariant (ids_none l.left a.saved.now l.next (omega arith)) (place_none l.left a.saved.now l.next (omega arith))
+    let l = c.loop-i in
+    let r = c.in_default in
+    walking_done a.dst.now a.at a.saved.now a.from a.count l.dst l.places (a.count - l.i) l.invariant
+    (ids_err (a.count - l.i) a.saved.now l.places.next r.field-0 r.ensures) (place_err (a.count - l.i) a.saved.now l.places.next r.field-0 r.ensures)
