@@ -2,342 +2,171 @@
 // slashes between them.
 #![tactic(auto)]
 
-ghost use Rattle.std.specs.Prelude.{◌≡◌, ◌<◌};
+ghost use Rattle.std.specs.Prelude.{◌≡◌, MatchOption};
 ghost use Rattle.ascii.specs.Ascii.{ascii};
 ghost use Rattle.replay_script.specs.Places.{values_of};
-ghost use Rattle.replay_script.specs.Words.{items_of};
-ghost use Rattle.replay_lists.specs.Lists.{no_slashes, Cut, method_id, kind_in, no_method, with_flag, method_from, method_in, no_methods, add_method, add_methods, no_frame, frame_from, frame_in, no_frames, add_frame, add_frames};
+ghost use Rattle.replay_script.specs.Words.{items_of, split};
+ghost use Rattle.replay_lists.specs.Lists.{not_three, three, three_of, method_id, kind_in, method_in, with_next, no_methods, add_methods, frame_in, no_frames, add_frames};
 
 use frames::{Id, ProbeFrame};
 use phones::ShortId;
 use replay_digits::Written;
-use replay_values::{CanId, Data, Flag};
 use state::{Kind, Method};
 
-// The methods of a new gate: the first eight, and how many there are; not `ok`: one is not of its form.
+// The methods of a new gate: the first eight, none if one is not of its form; and how many there are.
 #[derive(Clone, Copy)]
 pub struct Methods {
-    pub ok: bool,
-    pub list: [Method; 8],
+    pub list: Option<[Method; 8]>,
     pub count: usize,
 }
 
-// The frames of a probe: the first four, and how many there are; not `ok`: one is not of its form.
+// The frames of a probe: the first four, none if one is not of its form; and how many there are.
 #[derive(Clone, Copy)]
 pub struct ProbeFrames {
-    pub ok: bool,
-    pub list: [ProbeFrame; 4],
+    pub list: Option<[ProbeFrame; 4]>,
     pub count: usize,
 }
 
-// The places of the two slashes of a value of three parts; not `ok`: it has not three.
-#[derive(Clone, Copy)]
-struct Slashes {
-    ok: bool,
-    one: usize,
-    two: usize,
-}
-
-#[derive(Clone, Copy)]
-struct IdItem {
-    ok: bool,
-    id: ShortId,
-}
-
-#[derive(Clone, Copy)]
-enum KindItem {
-    Of(Kind),
-    NoKind,
-}
-
-#[derive(Clone, Copy)]
-struct MethodItem {
-    ok: bool,
-    method: Method,
-}
-
-#[derive(Clone, Copy)]
-struct FrameItem {
-    ok: bool,
-    frame: ProbeFrame,
-}
-
-fn no_slashes() -> Slashes
-    ensures { result ≡ no_slashes }
-{
-    Slashes {
-        ok: false,
-        one: 0,
-        two: 0,
-    }
-}
-
-fn slashes_of(v: &[u8]) -> Slashes
-    ensures { Cut v.now result }
+// The three parts of a value; none if it has not two slashes.
+fn parts_of(v: &[u8]) -> Option<(&[u8], &[u8], &[u8])>
+    ensures { MatchOption result (three_of (split 47 v.now) ≡ not_three) (λ p. three_of (split 47 v.now) ≡ three p.0.now p.1.now p.2.now) }
 {
     let one = replay_script::find(v, 0, b'/');
     if v.len() <= one {
-        return no_slashes();
+        return None;
     }
     let two = replay_script::find(v, one + 1, b'/');
     if v.len() <= two {
-        return no_slashes();
+        return None;
     }
     let three = replay_script::find(v, two + 1, b'/');
     if three < v.len() {
-        return no_slashes();
+        return None;
     }
-    Slashes { ok: true, one, two }
+    Some((&v[..one], &v[one + 1..two], &v[two + 1..]))
 }
 
 // An id; of one above 32 bytes the length is kept, so that it is out of range.
-fn method_id(s: &[u8]) -> IdItem
+#[tactic(auto, using(crate::proofs::Laws::id_made), unfolding(crate::specs::Lists::method_id))]
+fn method_id(s: &[u8]) -> Option<ShortId>
     ensures { result ≡ method_id s.now }
 {
+    if !replay_digits::is_bytes(s, Written::HexOrText) {
+        return None;
+    }
+    let len = replay_digits::byte_count(s, Written::HexOrText);
     let mut bytes = [0u8; 32];
-    if replay_digits::is_bytes(s, Written::HexOrText) {
-        let n = replay_digits::byte_count(s, Written::HexOrText);
-        if 32 < n {
-            let long = ShortId { bytes, len: n };
-            return IdItem { ok: true, id: long };
-        }
-        replay_digits::put_bytes(s, Written::HexOrText, &mut bytes, 0);
-        let id = ShortId { bytes, len: n };
-        return IdItem { ok: true, id };
+    if 32 < len {
+        return Some(ShortId { bytes, len });
     }
-    let none = ShortId { bytes, len: 0 };
-    IdItem {
-        ok: false,
-        id: none,
-    }
+    replay_digits::put_bytes(s, Written::HexOrText, &mut bytes, 0);
+    Some(ShortId { bytes, len })
 }
 
-fn kind_in(s: &[u8]) -> KindItem
+#[tactic(auto, using(arrays::proofs::Laws::same_is_pointwise), unfolding(crate::specs::Lists::kind_in))]
+fn kind_in(s: &[u8]) -> Option<Kind>
     ensures { result ≡ kind_in s.now }
 {
-    if arrays::same_bytes(s, b"code") {
-        return KindItem::Of(Kind::CodeEntry);
+    if s == b"code".as_slice() {
+        Some(Kind::CodeEntry)
+    } else if s == b"action".as_slice() {
+        Some(Kind::InCarAction)
+    } else {
+        None
     }
-    if arrays::same_bytes(s, b"action") {
-        return KindItem::Of(Kind::InCarAction);
-    }
-    KindItem::NoKind
-}
-
-fn no_method() -> MethodItem
-    ensures { result ≡ no_method }
-{
-    let bytes = [0u8; 32];
-    let id = ShortId { bytes, len: 0 };
-    let method = Method {
-        id,
-        kind: Kind::InCarAction,
-        needs_approval: false,
-    };
-    MethodItem { ok: false, method }
-}
-
-fn with_flag(id: ShortId, kind: Kind, approval: Flag) -> MethodItem
-    ensures { result ≡ with_flag id kind approval }
-{
-    match approval {
-        Flag::Yes => {
-            let method = Method {
-                id,
-                kind,
-                needs_approval: true,
-            };
-            MethodItem { ok: true, method }
-        }
-        Flag::No => {
-            let method = Method {
-                id,
-                kind,
-                needs_approval: false,
-            };
-            MethodItem { ok: true, method }
-        }
-        Flag::NoFlag => no_method(),
-    }
-}
-
-#[tactic(auto, unfolding(crate::specs::Lists::method_from))]
-fn method_from(id: IdItem, kind: KindItem, approval: Flag) -> MethodItem
-    ensures { result ≡ method_from id kind approval }
-{
-    if id.ok {
-        let bytes = id.id;
-        return match kind {
-            KindItem::Of(k) => with_flag(bytes, k, approval),
-            KindItem::NoKind => no_method(),
-        };
-    }
-    no_method()
 }
 
 // ID/KIND/APPROVAL
-fn method_in(v: &[u8]) -> MethodItem
+#[tactic(auto, unfolding(crate::specs::Lists::method_in))]
+fn method_in(v: &[u8]) -> Option<Method>
     ensures { result ≡ method_in v.now }
 {
-    let c = slashes_of(v);
-    if c.ok {
-        let one = c.one;
-        let two = c.two;
-        let id = method_id(&v[..one]);
-        let kind = kind_in(&v[one + 1..two]);
-        let approval = replay_values::flag_in(&v[two + 1..]);
-        return method_from(id, kind, approval);
-    }
-    no_method()
+    let (id, kind, approval) = parts_of(v)?;
+    let id = method_id(id)?;
+    let kind = kind_in(kind)?;
+    let needs_approval = replay_values::flag_in(approval)?;
+    Some(Method {
+        id,
+        kind,
+        needs_approval,
+    })
 }
 
-fn no_methods() -> Methods
-    ensures { result ≡ no_methods }
+// KIND/ID/DATA
+#[tactic(auto, unfolding(crate::specs::Lists::frame_in))]
+fn frame_in(v: &[u8]) -> Option<ProbeFrame>
+    ensures { result ≡ frame_in v.now }
 {
-    let none = no_method();
-    let method = none.method;
-    let list = [method; 8];
-    Methods {
-        ok: true,
-        list,
-        count: 0,
-    }
+    let (kind, id, eight) = parts_of(v)?;
+    let id = replay_values::can_id_in(kind, id)?;
+    let data = replay_values::data_in(eight)?;
+    Some(ProbeFrame { id, data })
 }
 
-// One method more.
-fn add_method(all: Methods, one: MethodItem) -> Methods
-    requires { all.count < 18446744073709551615 }
-    ensures { result ≡ add_method all one }
+// A list with one item more at `n`, or the same past its last place; none if one is not of its form.
+fn with_next<T: Copy, const N: usize>(
+    list: Option<[T; N]>,
+    n: usize,
+    one: Option<T>,
+) -> Option<[T; N]>
+    ensures { result ≡ with_next N list n one }
 {
-    let mut out = all;
-    let n = all.count;
-    out.count = n + 1;
-    if one.ok {
-        if n < 8 {
-            let method = one.method;
-            out.list[n] = method;
-            return out;
-        }
-        return out;
+    let mut list = list?;
+    let one = one?;
+    if n < N {
+        list[n] = one;
     }
-    out.ok = false;
-    out
+    Some(list)
 }
 
-#[tactic(auto, unfolding(crate::specs::Lists::add_method, crate::specs::Lists::add_methods, replay_script::specs::Places::shown))]
+#[tactic(auto, unfolding(crate::specs::Lists::add_methods))]
 pub fn methods_of(line: &[u8]) -> Methods
     ensures { result ≡ add_methods no_methods (values_of (ascii "method") (items_of line.now)) }
 {
-    let mut all = no_methods();
+    let none = Method {
+        id: ShortId {
+            bytes: [0; 32],
+            len: 0,
+        },
+        kind: Kind::InCarAction,
+        needs_approval: false,
+    };
+    let mut all = Methods {
+        list: Some([none; 8]),
+        count: 0,
+    };
     let mut at = 0;
-    while at < line.len() {
-        let v = replay_script::next(line, at, b"method");
-        if v.ok {
-            let a = v.start;
-            let e = v.end;
-            let one = method_in(&line[a..e]);
-            all = add_method(all, one);
-            at = e;
-        } else {
-            return all;
-        }
+    while let Some(v) = replay_script::next(line, at, b"method") {
+        let one = method_in(&line[v.start..v.end]);
+        all = Methods {
+            list: with_next(all.list, all.count, one),
+            count: all.count + 1,
+        };
+        at = v.end;
     }
     all
 }
 
-fn no_frame() -> FrameItem
-    ensures { result ≡ no_frame }
-{
-    let data = [0u8; 8];
-    let frame = ProbeFrame {
-        id: Id::Standard(0),
-        data,
-    };
-    FrameItem { ok: false, frame }
-}
-
-#[tactic(auto, unfolding(crate::specs::Lists::frame_from))]
-fn frame_from(id: CanId, eight: Data) -> FrameItem
-    ensures { result ≡ frame_from id eight }
-{
-    if eight.ok {
-        let bytes = eight.bytes;
-        return match id {
-            CanId::Is(i) => {
-                let frame = ProbeFrame { id: i, data: bytes };
-                FrameItem { ok: true, frame }
-            }
-            CanId::NoId => no_frame(),
-        };
-    }
-    no_frame()
-}
-
-// KIND/ID/DATA
-fn frame_in(v: &[u8]) -> FrameItem
-    ensures { result ≡ frame_in v.now }
-{
-    let c = slashes_of(v);
-    if c.ok {
-        let one = c.one;
-        let two = c.two;
-        let id = replay_values::can_id_in(&v[..one], &v[one + 1..two]);
-        let eight = replay_values::data_in(&v[two + 1..]);
-        return frame_from(id, eight);
-    }
-    no_frame()
-}
-
-fn no_frames() -> ProbeFrames
-    ensures { result ≡ no_frames }
-{
-    let none = no_frame();
-    let frame = none.frame;
-    let list = [frame; 4];
-    ProbeFrames {
-        ok: true,
-        list,
-        count: 0,
-    }
-}
-
-// One frame more.
-fn add_frame(all: ProbeFrames, one: FrameItem) -> ProbeFrames
-    requires { all.count < 18446744073709551615 }
-    ensures { result ≡ add_frame all one }
-{
-    let mut out = all;
-    let n = all.count;
-    out.count = n + 1;
-    if one.ok {
-        if n < 4 {
-            let frame = one.frame;
-            out.list[n] = frame;
-            return out;
-        }
-        return out;
-    }
-    out.ok = false;
-    out
-}
-
-#[tactic(auto, unfolding(crate::specs::Lists::add_frame, crate::specs::Lists::add_frames, replay_script::specs::Places::shown))]
+#[tactic(auto, unfolding(crate::specs::Lists::add_frames))]
 pub fn frames_of(line: &[u8]) -> ProbeFrames
     ensures { result ≡ add_frames no_frames (values_of (ascii "frame") (items_of line.now)) }
 {
-    let mut all = no_frames();
+    let none = ProbeFrame {
+        id: Id::Standard(0),
+        data: [0; 8],
+    };
+    let mut all = ProbeFrames {
+        list: Some([none; 4]),
+        count: 0,
+    };
     let mut at = 0;
-    while at < line.len() {
-        let v = replay_script::next(line, at, b"frame");
-        if v.ok {
-            let a = v.start;
-            let e = v.end;
-            let one = frame_in(&line[a..e]);
-            all = add_frame(all, one);
-            at = e;
-        } else {
-            return all;
-        }
+    while let Some(v) = replay_script::next(line, at, b"frame") {
+        let one = frame_in(&line[v.start..v.end]);
+        all = ProbeFrames {
+            list: with_next(all.list, all.count, one),
+            count: all.count + 1,
+        };
+        at = v.end;
     }
     all
 }
