@@ -1,12 +1,12 @@
 -- A record that restore accepts: its cars stand where they are looked for, and their lines fit.
-use mathlib.Core.Path.{◌≡◌, refl, ap, sym, ◌∙◌}
+use mathlib.Core.Path.{◌≡◌, refl, ap, sym}
 use mathlib.Core.Bool.{Bool, true, false, cond, true≢false}
 use mathlib.Core.List.{List, [], ◌∷◌, ◌++◌}
 use Prim.Native.Nat.{ℕ, ◌*◌, ◌≤◌}
 use native.Mathlib.Omega.{arith}
-use borrow.Author.Tests.{eq-eqb, ltb-false, ne_eqb}
+use borrow.Author.Tests.{ltb-false}
 use lib.Dec.{ltb}
-use lib.ListN.{length, take, get_or, length-append}
+use lib.ListN.{length, take, length-append}
 use lib.Seq.{length-take-le}
 use Rattle.ascii.specs.Ascii.{ascii}
 use Rattle.arrays.proofs.Laws.{padded_length}
@@ -16,11 +16,11 @@ use Rattle.hexadecimal.specs.Hex.{hex_of}
 use Rattle.hexadecimal.proofs.Laws.{hex_length}
 use Rattle.phones.proofs.Search.{none_cons}
 use Rattle.phone_fields.specs.PhoneFields.{any_long, over_limits}
-use Rattle.saved_record.specs.declared.Decoded.{Decoded}
-use Rattle.saved_record.specs.declared.RecordVerdict.{RecordVerdict}
-use Rattle.saved_record.specs.declared.RecordVerdict.TheVariants.{Restored}
+use Rattle.std.specs.Prelude.{Ok, Err}
+use Rattle.saved_record.specs.declared.RecordError.{RecordError}
+use Rattle.saved_record.specs.declared.Store.{Store}
 use Rattle.saved_record.specs.SavedRecord.{CarIds, car_parts, over, Reading, malformed, car_twice, too_large, ok, decoded}
-use Rattle.saved_record.specs.Store.{cars_of, refusal, restored}
+use Rattle.saved_record.specs.Store.{cars_of, store_of, restored}
 use Rattle.saved_record.proofs.Laws.{cars_of_store}
 use Rattle.saved_record.proofs.Parts.{Digests}
 use Rattle.saved_record.proofs.RoundTrip.{Versions, one, two, accepted_well_formed}
@@ -79,42 +79,25 @@ accepted_length cs m d h =
     let i = each_length cs d h in
     omega (arith, line_length_lem (ascii "answer=") (ascii "ok"))
 
--- ---- the place of the first car
-
-pub first_none : (s : List ℕ) → length s ≡ 0 → 0 ≡ first_car s
-unfolding first_car
-first_none [] h = refl
-first_none (v ∷ s) h = absurd (omega arith)
-
-pub first_one : (s : List ℕ) → (length s ≡ 0 → ⊥) → get_or s 0 0 ≡ 1 → 1 ≡ first_car s
-unfolding first_car
-first_one [] g h = absurd (g refl)
-first_one (v ∷ s) g h = rw (eq-eqb v 1 h)
-
-pub first_two : (s : List ℕ) → (length s ≡ 0 → ⊥) → (get_or s 0 0 ≡ 1 → ⊥) → 2 ≡ first_car s
-unfolding first_car
-first_two [] g h = absurd (g refl)
-first_two (v ∷ s) g h = rw (ne_eqb v 1 h)
-
 -- ---- what restore answers
 
 -- a refusal, whichever it is, is told by the same line
-refused_lines_lem : (x : Reading) (v : RecordVerdict) → (restored x).answer ≡ v → (v ≡ Restored → ⊥) → lines_of x ≡ refused_lines
-unfolding restored lines_of refusal
-refused_lines_lem malformed v e n = refl
-refused_lines_lem car_twice v e n = refl
-refused_lines_lem too_large v e n = refl
-refused_lines_lem (ok cs) v e n = absurd (n (sym e))
+refused_by : (x : Reading) (r : RecordError) → Err r ≡ restored x → lines_of x ≡ refused_lines
+unfolding restored lines_of
+refused_by malformed r e = refl
+refused_by car_twice r e = refl
+refused_by too_large r e = refl
+refused_by (ok cs) r e = absurd cc
 
-pub refused_told : (input : List ℕ) (d : Decoded) (v : RecordVerdict) → d ≡ restored (decoded input) → d.answer ≡ v → (v ≡ Restored → ⊥) → lines_of (decoded input) ≡ refused_lines
-refused_told input d v e a n = refused_lines_lem (decoded input) v (ap (λ (x : Decoded). x.answer) (sym e) ∙ a) n
+pub refused_told : (input : List ℕ) (r : RecordError) → Err r ≡ restored (decoded input) → lines_of (decoded input) ≡ refused_lines
+refused_told input r e = refused_by (decoded input) r e
 
-restored_ok : (x : Reading) → (restored x).answer ≡ Restored → x ≡ ok (cars_of (restored x).store)
-unfolding restored refusal
-restored_ok malformed e = let z : ◌≡◌ {A = ℕ} 0 1 = cc in absurd (omega arith)
-restored_ok car_twice e = let z : ◌≡◌ {A = ℕ} 0 1 = cc in absurd (omega arith)
-restored_ok too_large e = let z : ◌≡◌ {A = ℕ} 0 1 = cc in absurd (omega arith)
-restored_ok (ok cs) e = ap ok (sym (cars_of_store cs))
+restored_ok : (x : Reading) (s : Store) → Ok s ≡ restored x → x ≡ ok (cars_of s)
+unfolding restored
+restored_ok malformed s e = absurd cc
+restored_ok car_twice s e = absurd cc
+restored_ok too_large s e = absurd cc
+restored_ok (ok cs) s e = let q : s ≡ store_of cs = cc in rw q (ap ok (sym (cars_of_store cs)))
 
 -- the lines of an accepted record are those of its cars, which stand in it from the first place on, and they fit
 pub record Fit (input : List ℕ) (cs : List CarIds) : Type 0 where
@@ -134,10 +117,8 @@ accepted_fit input cs e =
     let s = cars_stand input cs w.0.written in
     record { same = rw e; stands = s.0; room = accepted_length cs s.1 w.0.digests w.2 }
 
-pub restored_fit : (input : List ℕ) (d : Decoded) → d ≡ restored (decoded input) → d.answer ≡ Restored → Fit input (cars_of d.store)
-restored_fit input d e a =
-    let f : (restored (decoded input)).answer ≡ Restored = ap (λ (x : Decoded). x.answer) (sym e) ∙ a in
-    rw e (accepted_fit input (cars_of (restored (decoded input)).store) (restored_ok (decoded input) f))
+pub restored_fit : (input : List ℕ) (s : Store) → Ok s ≡ restored (decoded input) → Fit input (cars_of s)
+restored_fit input s e = accepted_fit input (cars_of s) (restored_ok (decoded input) s e)
 
 -- ---- every listing has room
 

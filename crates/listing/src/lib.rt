@@ -8,7 +8,8 @@ ghost use Rattle.car_lines.specs.Walk.{Stands};
 ghost use Rattle.listing.specs.Listing.{accepted_lines, refused_lines, listed, listing_of};
 ghost use Rattle.listing.specs.Steps.{first_car};
 
-use saved_record::{RecordVerdict, Store};
+use car_lines::Places;
+use saved_record::Store;
 
 // The lines with their length; zeros past it.
 #[derive(Clone, Copy)]
@@ -30,33 +31,28 @@ fn accepted(saved: &[u8], from: usize, store: Store) -> Listing
     requires { Stands saved.now from (car_parts (cars_of store)) × (length (accepted_lines (cars_of store)) ≤ 9414) }
     ensures { result ≡ listed (accepted_lines (cars_of store)) }
 {
-    let n = saved_record::clamp_cars(store.count);
-    let cars = store.cars;
     let mut bytes = [0u8; 9414];
-    let mut len = car_lines::put_text(&mut bytes, 0, b"answer=ok\n");
-    let mut next = from;
-    let mut i = 0;
-    while i < n {
-        let car = cars[i];
-        let places = car_lines::put_car(&mut bytes, len, saved, next, car);
-        len = places.end;
-        next = places.next;
-        i += 1;
+    let end = car_lines::put_text(&mut bytes, 0, b"answer=ok\n");
+    let mut places = Places { end, next: from };
+    for car in &store.cars[..saved_record::clamp_cars(store.count)] {
+        places = car_lines::put_car(&mut bytes, places.end, saved, places.next, *car);
     }
-    Listing { bytes, len }
+    Listing {
+        bytes,
+        len: places.end,
+    }
 }
 
 // The place of the first car in a record: after the version, and in version 2 after the number of cars.
+#[tactic(auto, unfolding(crate::specs::Steps::first_car))]
 fn first_car(saved: &[u8]) -> usize
     ensures { result ≡ first_car saved.now }
 {
-    if saved.len() == 0 {
-        return 0;
+    match *saved {
+        [] => 0,
+        [1, ..] => 1,
+        _ => 2,
     }
-    if saved[0] == 1 {
-        return 1;
-    }
-    2
 }
 
 // The lines of a record. A longer input than 8 KiB is refused by its length alone.
@@ -66,16 +62,8 @@ pub fn list_record(input: &[u8]) -> Listing
     if 8192 < input.len() {
         return refused();
     }
-    let read = decode_record::decode_phone_validations(input);
-    let answer = read.answer;
-    match answer {
-        RecordVerdict::Restored => {
-            let store = read.store;
-            let from = first_car(input);
-            accepted(input, from, store)
-        }
-        RecordVerdict::Malformed => refused(),
-        RecordVerdict::CarTwice => refused(),
-        RecordVerdict::TooLarge => refused(),
+    match decode_record::decode_phone_validations(input) {
+        Ok(store) => accepted(input, first_car(input), store),
+        Err(_) => refused(),
     }
 }
