@@ -1,5 +1,5 @@
 -- Laws of 6.2.2: the schedule, the rounds and the sums, one step at a time.
-use Rattle.std.proofs.Common.{◌≡◌, ℕ, zero, suc, ◌+◌, ◌-◌, ◌<◌, ◌≤◌, List, [], ◌∷◌, ◌++◌, length, get_or, take, set, sym, refl, ap, ◌∙◌, ap₂, add-one, arith, length-set, length-take-le, take_all, get_or-set_other, get_or-take, take-suc, take-suc-set, le-ltb, lt-ltb}
+use Rattle.std.proofs.Common.{◌≡◌, ℕ, zero, suc, ◌+◌, ◌-◌, ◌<◌, ◌≤◌, List, [], ◌∷◌, ◌++◌, length, get_or, take, set, sym, refl, ap, ◌∙◌, ap₂, add-one, arith, length-set, take_all, get_or-set_other, get_or-take, take-suc-set, le-ltb, lt-ltb}
 use Rattle.sha256_block.specs.Block.{◌⊞◌, σ₀, σ₁, K, W, next, round, rounds, plus}
 
 -- ---- the schedule, a word at a time
@@ -80,19 +80,12 @@ pub held_later : (m : ℕ → ℕ) (s k w w' v v' : List ℕ) (t t' : ℕ) → 1
 held_later m s k w w' v v' t t' l u hk ht h f e =
     rw (ht, f) (later_at m s k w v v' t l u hk h (e ∙ ap (λ (x : List ℕ). round (get_or k t 0) (get_or x t 0) v) f))
 
--- ---- the sums of step 4, one at a time
+-- ---- the sums of step 4
 
-plus_snoc : (a b : List ℕ) (x y : ℕ) → length a ≡ length b → plus (a ++ x ∷ []) (b ++ y ∷ []) ≡ plus a b ++ (x ⊞ y) ∷ []
-plus_snoc [] [] x y h = refl
-plus_snoc [] (q ∷ b) x y h = absurd (omega (arith, h))
-plus_snoc (p ∷ a) [] x y h = absurd (omega (arith, h))
-plus_snoc (p ∷ a) (q ∷ b) x y h = ap (λ (l : List ℕ). (p ⊞ q) ∷ l) (plus_snoc a b x y (omega (arith, h)))
-
-pub plus_step : (v s r : List ℕ) (i x : ℕ) → i < length v → i < length s → i < length r → take i r ≡ plus (take i v) (take i s) → x ≡ get_or v i 0 ⊞ get_or s i 0
-    → take (i + 1) (set r i x) ≡ plus (take (i + 1) v) (take (i + 1) s)
-plus_step v s r i x hv hs hr e f =
-    rw add-one
-    (take-suc-set r i x hr
-    ∙ ap₂ (λ (l : List ℕ) (y : ℕ). l ++ y ∷ []) e f
-    ∙ sym (plus_snoc (take i v) (take i s) (get_or v i 0) (get_or s i 0) (omega (arith, length-take-le i v (omega arith), length-take-le i s (omega arith))))
-    ∙ ap₂ plus (sym (take-suc v i 0 hv)) (sym (take-suc s i 0 hs)))
+pub plus_all : (v s r : List ℕ) → length s ≡ length v → length r ≡ length v → ((i : ℕ) → i < length v → get_or r i 0 ≡ get_or v i 0 ⊞ get_or s i 0) → r ≡ plus v s
+plus_all [] s [] hs hr each = refl
+plus_all [] s (z ∷ r) hs hr each = absurd (omega (arith, hr))
+plus_all (x ∷ v) s [] hs hr each = absurd (omega (arith, hr))
+plus_all (x ∷ v) [] (z ∷ r) hs hr each = absurd (omega (arith, hs))
+plus_all (x ∷ v) (y ∷ s) (z ∷ r) hs hr each =
+    ap₂ (λ (a : ℕ) (l : List ℕ). a ∷ l) (each 0 (omega arith)) (plus_all v s r (omega (arith, hs)) (omega (arith, hr)) (λ i h. each (suc i) (omega (arith, h))))

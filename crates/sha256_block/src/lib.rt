@@ -4,7 +4,7 @@
 ghost use Rattle.std.specs.Prelude.{◌≡◌, ◌+◌, ◌-◌, ◌*◌, ◌<◌, ◌≤◌, length, slice_index, slice_index_or, slice_set};
 ghost use Rattle.sha256_block.specs.Block.{◌⊞◌, σ₀, σ₁, M, W, round, rounds, plus};
 
-use words::{add, mixed, temp1, temp2, word};
+use words::{mixed, temp1, temp2, word};
 
 mod words;
 
@@ -83,11 +83,11 @@ fn round(v: [u32; 8], k: u32, w: u32) -> [u32; 8]
     let t1 = temp1(v[4], v[5], v[6], v[7], k, w);
     let t2 = temp2(v[0], v[1], v[2]);
     [
-        add(t1, t2),
+        t1.wrapping_add(t2),
         v[0],
         v[1],
         v[2],
-        add(v[3], t1),
+        v[3].wrapping_add(t1),
         v[4],
         v[5],
         v[6],
@@ -96,8 +96,8 @@ fn round(v: [u32; 8], k: u32, w: u32) -> [u32; 8]
 
 // Step 1 for word `t` of the schedule, one of the first 16, from block `i`, and the round with it.
 fn first(w: &mut [u32; 64], k: &[u32; 64], v: [u32; 8], m: &[u8], i: usize, t: usize) -> [u32; 8]
-    requires { (64 * i + 64 ≤ length m.now) × (t < 16) × (length w.old ≡ 64) × (length k.now ≡ 64) }
-    ensures { (w.new ≡ slice_set w.old t (M m.now i t)) × (length w.new ≡ 64) × (result ≡ round (slice_index k.now t) (slice_index w.new t) v) }
+    requires { (64 * i + 64 ≤ length m.now) × (t < 16) }
+    ensures { (w.new ≡ slice_set w.old t (M m.now i t)) × (result ≡ round (slice_index k.now t) (slice_index w.new t) v) }
 {
     w[t] = word(m, 64 * i + 4 * t);
     round(v, k[t], w[t])
@@ -105,16 +105,16 @@ fn first(w: &mut [u32; 64], k: &[u32; 64], v: [u32; 8], m: &[u8], i: usize, t: u
 
 // Step 1 for word `t`, one of the rest, from those before it, and the round with it.
 fn later(w: &mut [u32; 64], k: &[u32; 64], v: [u32; 8], t: usize) -> [u32; 8]
-    requires { (16 ≤ t) × (t < 64) × (length w.old ≡ 64) × (length k.now ≡ 64) }
-    ensures { (w.new ≡ slice_set w.old t (σ₁ (slice_index w.old (t - 2)) ⊞ slice_index_or w.old (t - 7) 0 ⊞ σ₀ (slice_index w.old (t - 15)) ⊞ slice_index_or w.old (t - 16) 0)) × (length w.new ≡ 64) × (result ≡ round (slice_index k.now t) (slice_index w.new t) v) }
+    requires { (16 ≤ t) × (t < 64) }
+    ensures { (w.new ≡ slice_set w.old t (σ₁ (slice_index w.old (t - 2)) ⊞ slice_index_or w.old (t - 7) 0 ⊞ σ₀ (slice_index w.old (t - 15)) ⊞ slice_index_or w.old (t - 16) 0)) × (result ≡ round (slice_index k.now t) (slice_index w.new t) v) }
 {
     w[t] = mixed(w[t - 2], w[t - 7], w[t - 15], w[t - 16]);
     round(v, k[t], w[t])
 }
 
 // Steps 1 to 3 for block `i`: the working variables after the 64 rounds. A word of the schedule is made just before its
-// round, and eight rounds are one turn of the loop: both are for speed. K is copied once; an index into the constant
-// itself would copy it in each round.
+// round, and eight rounds are one turn of the loop: both are for speed. One round a turn takes a quarter longer. K is
+// copied once; an index into the constant itself would copy it in each round.
 fn working(s: [u32; 8], m: &[u8], i: usize) -> [u32; 8]
     requires { 64 * i + 64 ≤ length m.now }
     ensures { result ≡ rounds (W (M m.now i) 64) s 64 }
@@ -122,8 +122,7 @@ fn working(s: [u32; 8], m: &[u8], i: usize) -> [u32; 8]
     let k = K;
     let mut w = [0u32; 64];
     let mut v = s;
-    let mut t = 0;
-    while t < 16 {
+    for t in (0..16).step_by(8) {
         let v1 = first(&mut w, &k, v, m, i, t);
         let v2 = first(&mut w, &k, v1, m, i, t + 1);
         let v3 = first(&mut w, &k, v2, m, i, t + 2);
@@ -133,9 +132,8 @@ fn working(s: [u32; 8], m: &[u8], i: usize) -> [u32; 8]
         let v7 = first(&mut w, &k, v6, m, i, t + 6);
         let v8 = first(&mut w, &k, v7, m, i, t + 7);
         v = v8;
-        t += 8;
     }
-    while t < 64 {
+    for t in (16..64).step_by(8) {
         let v1 = later(&mut w, &k, v, t);
         let v2 = later(&mut w, &k, v1, t + 1);
         let v3 = later(&mut w, &k, v2, t + 2);
@@ -145,7 +143,6 @@ fn working(s: [u32; 8], m: &[u8], i: usize) -> [u32; 8]
         let v7 = later(&mut w, &k, v6, t + 6);
         let v8 = later(&mut w, &k, v7, t + 7);
         v = v8;
-        t += 8;
     }
     v
 }
@@ -154,13 +151,7 @@ fn working(s: [u32; 8], m: &[u8], i: usize) -> [u32; 8]
 fn plus(v: [u32; 8], s: [u32; 8]) -> [u32; 8]
     ensures { result ≡ plus v s }
 {
-    let mut r = [0u32; 8];
-    let mut i = 0;
-    while i < 8 {
-        r[i] = add(v[i], s[i]);
-        i += 1;
-    }
-    r
+    std::array::from_fn(|i| v[i].wrapping_add(s[i]))
 }
 
 // The hash value after block `i` of `m`, where `h` is the one before it.

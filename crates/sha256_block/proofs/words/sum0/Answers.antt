@@ -1,7 +1,0 @@
--- The form of fewer operations is the paper's.
-use Rattle.std.proofs.Common.{arith}
-use Rattle.sha256_block.proofs.Shorter.{sum0_is}
-use Rattle.sha256_block.proofs.words.sum0.Goals as goal
-
-pub returns : goal.returns
-returns c = sum0_is c.args.x (omega arith)
