@@ -1,23 +1,13 @@
 -- Numbers, ids and bytes that were written are read back; no byte below the digits stands in them.
-use mathlib.Core.Path.{◌≡◌, refl, ap, ap₂, sym, ◌∙◌}
-use mathlib.Core.Bool.{Bool, true, false, cond}
-use mathlib.Core.List.{List, [], ◌∷◌, ◌++◌, append_assoc, append-nil}
-use Prim.Native.Nat.{ℕ, zero, suc, ◌+◌, ◌*◌, ◌/◌, ◌%◌, ◌≤◌, ◌<◌}
-use native.Mathlib.Omega.{arith}
-use borrow.Author.Tests.{lt-ltb, le-ltb, lt-leb, ltb-true, ltb-false, ne_eqb}
-use lib.Dec.{ltb}
-use lib.ListN.{length, length-append, replicate}
-use Rattle.arrays.specs.Arrays.{same_bytes}
+use Rattle.std.proofs.Common.{◌≡◌, refl, ap, ap₂, sym, ◌∙◌, Bool, true, false, cond, List, [], ◌∷◌, ◌++◌, append_assoc, append-nil, ℕ, zero, suc, ◌+◌, ◌*◌, ◌/◌, ◌%◌, ◌≤◌, ◌<◌, arith, lt-ltb, le-ltb, ltb-true, ltb-false, ne_eqb, ltb, length, length-append, Option, Some, None, unwrap_or}
+use borrow.Author.Tests.{lt-leb}
 use Rattle.arrays.proofs.Laws.{both}
 use Rattle.decimal.specs.Decimal.{digits_up_to, decimal_of}
 use Rattle.hexadecimal.specs.Hex.{digit, hex_of}
 use Rattle.hexadecimal.proofs.Laws.{value_digit, hex_length}
 use Rattle.word_table.specs.Words.{before}
-use Rattle.replay_digits.specs.Digits.{value_or16, digit_of, number_from, number_in, all_digits, is_hex, pairs_of}
-use Rattle.replay_values.specs.Values.{id_with, id_in, data_in}
-use Rattle.replay_values.specs.declared.CanId.TheVariants.{NoId}
-use Rattle.replay_digits.specs.declared.Number.{Number}
-use Rattle.replay_digits.specs.declared.Number.TheVariants.{Given, NoNumber}
+use Rattle.replay_digits.specs.Digits.{digit_of, number_from, number_in, all_digits, is_hex, pairs_of}
+use Rattle.replay_values.specs.Values.{data_in}
 use Rattle.replay_digits.proofs.Laws.{number_some}
 use Rattle.frame_lines.specs.Lines.{joined, digit_at, hexadecimal_of, all_bytes}
 use Rattle.frame_lines.proofs.Words.{Without, without_append, without_one}
@@ -26,7 +16,7 @@ use Rattle.frame_lines.proofs.Words.{Without, without_append, without_one}
 
 pub digit_read : (n : ℕ) → n < 16 → digit_of (digit n) ≡ n
 unfolding digit_of
-digit_read n h = ap value_or16 (value_digit n h)
+digit_read n h = ap (λ (x : Option ℕ). unwrap_or x 16) (value_digit n h)
 
 digit_small : (n : ℕ) → n < 10 → digit n ≡ 48 + n
 unfolding digit
@@ -74,11 +64,11 @@ decimal_some : (n : ℕ) → length (decimal_of n) ≡ 0 → ⊥
 unfolding decimal_of digits_up_to
 decimal_some n h = some_by (ltb n 10) (48 + n) (48 + n % 10) (digits_up_to n (n / 10)) h
 
-end : (base most v : ℕ) → number_from base most v [] ≡ Given v
+end : (base most v : ℕ) → number_from base most v [] ≡ Some v
 unfolding number_from
 end base most v = refl
 
-pub decimal_read : (most n : ℕ) → n ≤ most → number_in 10 most (decimal_of n) ≡ Given n
+pub decimal_read : (most n : ℕ) → n ≤ most → number_in 10 most (decimal_of n) ≡ Some n
 unfolding decimal_of
 decimal_read most n h =
     number_some 10 most (decimal_of n) (decimal_some n)
@@ -99,7 +89,7 @@ unit_turn : (most n unit high : ℕ) (r : List ℕ) → n ≤ most → (n < unit
 unfolding digit_at
 unit_turn most n unit high r h none more less = unit_by most n unit high (ltb n unit) r refl h none more less
 
-hex_from : (most n : ℕ) → n ≤ most → n < 4294967296 → number_from 16 most 0 (hexadecimal_of n) ≡ Given n
+hex_from : (most n : ℕ) → n ≤ most → n < 4294967296 → number_from 16 most 0 (hexadecimal_of n) ≡ Some n
 unfolding hexadecimal_of joined
 hex_from most n h k =
     unit_turn most n 0x1000_0000 0 _ h (λ l. omega arith) (omega arith) (omega arith)
@@ -110,7 +100,7 @@ hex_from most n h k =
     ∙ (unit_turn most n 0x100 (n / 0x1000) _ h (λ l. omega arith) (omega arith) (omega arith)
     ∙ (unit_turn most n 0x10 (n / 0x100) _ h (λ l. omega arith) (omega arith) (omega arith)
     ∙ (digit_turn 16 most (n / 16) (n % 16) [] (omega arith) (omega arith) (omega arith)
-    ∙ (end 16 most (n / 16 * 16 + n % 16) ∙ ap Given (let z : n / 16 * 16 + n % 16 ≡ n = omega arith in z)))))))))
+    ∙ (end 16 most (n / 16 * 16 + n % 16) ∙ ap Some (let z : n / 16 * 16 + n % 16 ≡ n = omega arith in z)))))))))
 
 joined_some : (ss : List (List ℕ)) (x : ℕ) → length (joined (ss ++ ((x ∷ []) ∷ []))) ≡ 0 → ⊥
 unfolding joined
@@ -123,7 +113,7 @@ hex_some n =
     let high = digit_at n 0x1000_0000 ∷ digit_at n 0x100_0000 ∷ digit_at n 0x10_0000 ∷ digit_at n 0x1_0000 ∷ digit_at n 0x1000 ∷ digit_at n 0x100 ∷ digit_at n 0x10 ∷ [] in
     joined_some high (digit (n % 16))
 
-pub hex_read : (most n : ℕ) → n ≤ most → n < 4294967296 → number_in 16 most (hexadecimal_of n) ≡ Given n
+pub hex_read : (most n : ℕ) → n ≤ most → n < 4294967296 → number_in 16 most (hexadecimal_of n) ≡ Some n
 hex_read most n h k = number_some 16 most (hexadecimal_of n) (hex_some n) ∙ hex_from most n h k
 
 -- ---- bytes
@@ -146,7 +136,7 @@ pairs_hex (b ∷ bs) h =
     let p = both (ltb b 256) (all_bytes bs) h in
     ap₂ (λ (x : ℕ) (xs : List ℕ). x ∷ xs) (byte_read b (ltb-true b 256 p.0)) (pairs_hex bs p.1)
 
-pub data_read : (s : List ℕ) → length s ≡ 8 → all_bytes s ≡ true → data_in (hex_of s) ≡ record { ok = true; bytes = s }
+pub data_read : (s : List ℕ) → length s ≡ 8 → all_bytes s ≡ true → data_in (hex_of s) ≡ Some s
 unfolding data_in is_hex
 data_read s h k =
     let l = hex_length s in
@@ -155,18 +145,8 @@ data_read s h k =
 
 -- ---- what is not read
 
-no_kind_by : (n : Number) → NoId ≡ id_with [] n
-unfolding same_bytes
-no_kind_by (Given n) = refl
-no_kind_by NoNumber = refl
-
--- an id without a kind is none
-pub no_kind : (s : List ℕ) → NoId ≡ id_in [] s
-unfolding id_in
-no_kind s = no_kind_by (number_in 16 4294967295 s)
-
 -- fewer than 16 digits are no eight bytes
-pub no_data : (s : List ℕ) → (length s ≡ 16 → ⊥) → record { ok = false; bytes = replicate 8 0 } ≡ data_in s
+pub no_data : (s : List ℕ) → (length s ≡ 16 → ⊥) → None ≡ data_in s
 unfolding data_in
 no_data s h = rw (ne_eqb (length s) 16 h)
 

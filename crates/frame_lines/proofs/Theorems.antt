@@ -1,12 +1,6 @@
 -- A line is read exactly if it is that of an entry in form.
-use mathlib.Core.Path.{◌≡◌, refl, ap, ap₂, sym, ◌∙◌}
-use mathlib.Core.Bool.{Bool, true, false, cond, false≢true}
-use mathlib.Core.List.{List, [], ◌∷◌, ◌++◌}
-use Prim.Native.Nat.{ℕ, ◌+◌, ◌*◌, ◌/◌, ◌%◌, ◌≤◌, ◌<◌}
-use native.Mathlib.Omega.{arith}
-use borrow.Author.Tests.{lt-ltb, le-ltb, leb-true, ltb-false, eqb-true}
-use lib.Dec.{eqb, ltb}
-use lib.ListN.{length, take, drop, replicate}
+use mathlib.Core.Bool.{false≢true}
+use Rattle.std.proofs.Common.{◌≡◌, refl, ap, ap₂, sym, ◌∙◌, Bool, true, false, cond, List, [], ◌∷◌, ◌++◌, ℕ, ◌+◌, ◌*◌, ◌/◌, ◌%◌, ◌≤◌, ◌<◌, arith, lt-ltb, le-ltb, leb-true, ltb-false, eqb-true, eqb, ltb, length, take, drop, Option, Some, None}
 use lib.Seq.{take_at}
 use Rattle.arrays.specs.Arrays.{same_bytes}
 use Rattle.arrays.proofs.Laws.{same_refl, same_bytes_is}
@@ -22,50 +16,40 @@ use Rattle.word_table.specs.Words.{before}
 use Rattle.replay_digits.specs.Digits.{digit_of, number_in, all_digits, is_hex, pairs_of}
 use Rattle.replay_values.specs.Values.{id_in, id_with, data_in}
 use Rattle.replay_digits.proofs.Laws.{number_most, pairs_length}
-use Rattle.replay_values.specs.declared.CanId.{CanId}
-use Rattle.replay_values.specs.declared.CanId.TheVariants.{Is, NoId}
-use Rattle.replay_values.specs.declared.Data.{Data}
-use Rattle.replay_digits.specs.declared.Number.{Number}
-use Rattle.replay_digits.specs.declared.Number.TheVariants.{Given, NoNumber}
 use Rattle.frame_lines.specs.declared.LineEntry.{LineEntry}
 use Rattle.frame_lines.specs.Lines.{joined, hexadecimal_of, kind_of, line_of, all_bytes, InForm}
-use Rattle.frame_lines.specs.Guess.{no_line, line_entry, behind, rest, values_in, entry_with, entry_from, if_line, read_line}
+use Rattle.frame_lines.specs.Guess.{line_entry, behind, rest, values_in, entry_with, entry_from, if_line, read_line}
 use Rattle.frame_lines.proofs.Words.{Without, behind_word, rest_word}
 use Rattle.frame_lines.proofs.Numbers.{decimal_read, decimal_free, hex_read, hex_free, data_read}
 
--- ---- the three ways to read a line
-
-module _ (s : List ℕ) (e : LineEntry) where
-  pub if_line_lem : e.ok ≡ true → same_bytes (line_of (entry e.time e.frame)) s ≡ true → e ≡ if_line s e
-  unfolding if_line
-  if_line_lem h k = rw (h, k)
-
-  pub if_other : e.ok ≡ true → same_bytes (line_of (entry e.time e.frame)) s ≡ false → no_line ≡ if_line s e
-  unfolding if_line
-  if_other h k = rw (h, k)
-
-  pub if_none : e.ok ≡ false → no_line ≡ if_line s e
-  unfolding if_line
-  if_none h = rw h
-
 -- ---- only lines of entries are read
 
-chosen : (s : List ℕ) (e : LineEntry) (t u : Bool) → same_bytes (line_of (entry e.time e.frame)) s ≡ u
-    → (cond t (cond u e no_line) no_line).ok ≡ true → s ≡ line_of (entry (cond t (cond u e no_line) no_line).time (cond t (cond u e no_line) no_line).frame)
-chosen s e true true q h = sym ((same_bytes_is (line_of (entry e.time e.frame)) s).0 q)
-chosen s e true false q h = absurd (false≢true h)
-chosen s e false u q h = absurd (false≢true h)
+-- what was read of a line is what stands in it, and its line is that line
+kept : (s : List ℕ) (o : Option LineEntry) (x : LineEntry) → if_line s o ≡ Some x → (o ≡ Some x) × (same_bytes (line_of (entry x.time x.frame)) s ≡ true)
+kept s None x h = cc
+kept s (Some e) x h = go (same_bytes (line_of (entry e.time e.frame)) s) refl
+  where
+    go : (t : Bool) → same_bytes (line_of (entry e.time e.frame)) s ≡ t → (Some e ≡ Some x) × (same_bytes (line_of (entry x.time x.frame)) s ≡ true)
+    go true q =
+        let w : Some e ≡ Some x = rw q at h in
+        let z : e ≡ x = cc in
+        (w, rw (← z) q)
+    go false q = let w : None ≡ Some x = rw q at h in cc
 
 -- a line that is read is the line of what was read
-pub only_lines : (s : List ℕ) → (read_line s).ok ≡ true → s ≡ line_of (entry (read_line s).time (read_line s).frame)
-unfolding read_line if_line
-only_lines s h = let e = entry_from (values_in s) in chosen s e e.ok (same_bytes (line_of (entry e.time e.frame)) s) refl h
+pub only_lines : (s : List ℕ) (x : LineEntry) → read_line s ≡ Some x → s ≡ line_of (entry x.time x.frame)
+unfolding read_line
+only_lines s x h = sym ((same_bytes_is (line_of (entry x.time x.frame)) s).0 (kept s (entry_from (values_in s)) x h).1)
 
 -- ---- and what is read is in form
 
 -- what one of the sixteen digits of the data tells
 pair_small : (a b : ℕ) → a ≤ 15 → b ≤ 15 → ltb (a * 16 + b) 256 ≡ true
 pair_small a b h k = lt-ltb (a * 16 + b) 256 (omega arith)
+
+none_of : (t u : Bool) → cond t false u ≡ true → (t ≡ false) × (u ≡ true)
+none_of true u h = absurd (false≢true h)
+none_of false u h = (refl, h)
 
 pairs_small : (s : List ℕ) → all_digits s ≡ true → all_bytes (pairs_of s) ≡ true
 unfolding all_digits pairs_of all_bytes
@@ -75,65 +59,51 @@ pairs_small (a ∷ b ∷ s) h =
     let p = none_of (ltb 15 (digit_of a)) (all_digits (b ∷ s)) h in
     let q = none_of (ltb 15 (digit_of b)) (all_digits s) p.1 in
     rw (pair_small (digit_of a) (digit_of b) (ltb-false 15 (digit_of a) p.0) (ltb-false 15 (digit_of b) q.0)) (pairs_small s q.1)
-  where
-    none_of : (t u : Bool) → cond t false u ≡ true → (t ≡ false) × (u ≡ true)
-    none_of true u h = absurd (false≢true h)
-    none_of false u h = (refl, h)
 
 -- eight bytes that were read are eight bytes
-record Eight (x : Data) : Type 0 where
-  far : length x.bytes ≡ 8
-  bytes : all_bytes x.bytes ≡ true
+record Eight (x : List ℕ) : Type 0 where
+  far : length x ≡ 8
+  bytes : all_bytes x ≡ true
 
-abbrev eight_if : List ℕ → Bool → Data
-eight_if s t = cond t (record { ok = true; bytes = pairs_of s }) (record { ok = false; bytes = replicate 8 0 })
-
-eight_by : (s : List ℕ) (t u v : Bool) → eqb (length s) 16 ≡ t → eqb (length s % 2) 1 ≡ u → all_digits s ≡ v
-    → (eight_if s (cond t (cond u false v) false)).ok ≡ true → Eight (eight_if s (cond t (cond u false v) false))
-eight_by s true false true p q r h =
+eight_by : (s x : List ℕ) (t u : Bool) → eqb (length s) 16 ≡ t → is_hex s ≡ u → cond (cond t u false) (Some (pairs_of s)) None ≡ Some x → Eight x
+unfolding is_hex
+eight_by s x true true p q h =
+    let e : pairs_of s ≡ x = cc in
     let l = eqb-true (length s) 16 p in
-    record { far = pairs_length s ∙ (let k : length s / 2 ≡ 8 = omega arith in k); bytes = pairs_small s r }
-eight_by s true false false p q r h = absurd (false≢true h)
-eight_by s true true v p q r h = absurd (false≢true h)
-eight_by s false u v p q r h = absurd (false≢true h)
+    let k : length s / 2 ≡ 8 = omega arith in
+    rw (← e) (record { far = pairs_length s ∙ k; bytes = pairs_small s (none_of (eqb (length s % 2) 1) (all_digits s) q).1 })
+eight_by s x true false p q h = cc
+eight_by s x false u p q h = cc
 
-eight_read : (s : List ℕ) → (data_in s).ok ≡ true → Eight (data_in s)
-unfolding data_in is_hex
-eight_read s h = eight_by s (eqb (length s) 16) (eqb (length s % 2) 1) (all_digits s) refl refl refl h
+eight_read : (s x : List ℕ) → data_in s ≡ Some x → Eight x
+unfolding data_in
+eight_read s x h = eight_by s x (eqb (length s) 16) (is_hex s) refl refl h
 
-form_by : (t b d : ℕ) (i : Id) (x : Data) (p q u v : Bool) → t ≤ 18446744073709551615 → ltb 3 b ≡ p → ltb 8 d ≡ q → (u ≡ true → Eight x) → can_id_in_range i ≡ v
-    → (let e = cond p no_line (cond q no_line (cond u (cond v (line_entry (entry t (record { bus = b; id = i; «data» = x.bytes; dlc = d }))) no_line) no_line)) in e.ok ≡ true → InForm (entry e.time e.frame))
-form_by t b d i x false false true true m hp hq hx hv h =
-    let g = hx refl in
-    record { time = omega arith; bus = ltb-false 3 b hp; dlc = ltb-false 8 d hq; id = hv; eight = g.far; bytes = g.bytes }
-form_by t b d i x false false true false m hp hq hx hv h = absurd (false≢true h)
-form_by t b d i x false false false v m hp hq hx hv h = absurd (false≢true h)
-form_by t b d i x false true u v m hp hq hx hv h = absurd (false≢true h)
-form_by t b d i x true q u v m hp hq hx hv h = absurd (false≢true h)
+form_by : (t b d : ℕ) (i : Id) (x : List ℕ) (y : LineEntry) (p q v : Bool) → t ≤ 18446744073709551615 → ltb 3 b ≡ p → ltb 8 d ≡ q → Eight x → can_id_in_range i ≡ v
+    → cond p None (cond q None (cond v (Some (line_entry (entry t (record { bus = b; id = i; «data» = x; dlc = d })))) None)) ≡ Some y → InForm (entry y.time y.frame)
+form_by t b d i x y false false true m hp hq g hv h =
+    let e : line_entry (entry t (record { bus = b; id = i; «data» = x; dlc = d })) ≡ y = cc in
+    rw (← e) (record { time = omega arith; bus = ltb-false 3 b hp; dlc = ltb-false 8 d hq; id = hv; eight = g.far; bytes = g.bytes })
+form_by t b d i x y false false false m hp hq g hv h = cc
+form_by t b d i x y false true v m hp hq g hv h = cc
+form_by t b d i x y true q v m hp hq g hv h = cc
 
-form_with : (t b d : Number) (i : CanId) (x : Data) → ((n : ℕ) → t ≡ Given n → n ≤ 18446744073709551615) → (x.ok ≡ true → Eight x)
-    → (entry_with t b i d x).ok ≡ true → InForm (entry (entry_with t b i d x).time (entry_with t b i d x).frame)
-form_with NoNumber b d i x m g h = absurd (false≢true h)
-form_with (Given t) NoNumber d i x m g h = absurd (false≢true h)
-form_with (Given t) (Given b) d NoId x m g h = absurd (false≢true h)
-form_with (Given t) (Given b) NoNumber (Is i) x m g h = absurd (false≢true h)
-form_with (Given t) (Given b) (Given d) (Is i) x m g h = form_by t b d i x (ltb 3 b) (ltb 8 d) x.ok (can_id_in_range i) (m t refl) refl refl g refl h
-
-kept_form : (s : List ℕ) (e : LineEntry) (t u : Bool) → e.ok ≡ t → (e.ok ≡ true → InForm (entry e.time e.frame))
-    → (cond t (cond u e no_line) no_line).ok ≡ true → InForm (entry (cond t (cond u e no_line) no_line).time (cond t (cond u e no_line) no_line).frame)
-kept_form s e true true p f h = f p
-kept_form s e true false p f h = absurd (false≢true h)
-kept_form s e false u p f h = absurd (false≢true h)
+form_with : (t b d : Option ℕ) (i : Option Id) (x : Option (List ℕ)) (y : LineEntry) → ((n : ℕ) → t ≡ Some n → n ≤ 18446744073709551615) → ((z : List ℕ) → x ≡ Some z → Eight z)
+    → entry_with t b i d x ≡ Some y → InForm (entry y.time y.frame)
+form_with None b d i x y m g h = cc
+form_with (Some t) None d i x y m g h = cc
+form_with (Some t) (Some b) d None x y m g h = cc
+form_with (Some t) (Some b) None (Some i) x y m g h = cc
+form_with (Some t) (Some b) (Some d) (Some i) None y m g h = cc
+form_with (Some t) (Some b) (Some d) (Some i) (Some x) y m g h = form_by t b d i x y (ltb 3 b) (ltb 8 d) (can_id_in_range i) (m t refl) refl refl (g x refl) refl h
 
 -- what is read of a line is an entry in form
-pub only_in_form : (s : List ℕ) → (read_line s).ok ≡ true → InForm (entry (read_line s).time (read_line s).frame)
-unfolding read_line if_line entry_from values_in
-only_in_form s h =
+pub only_in_form : (s : List ℕ) (x : LineEntry) → read_line s ≡ Some x → InForm (entry x.time x.frame)
+unfolding read_line entry_from values_in
+only_in_form s x h =
     let v = values_in s in
-    let e = entry_from v in
-    kept_form s e e.ok (same_bytes (line_of (entry e.time e.frame)) s) refl
-    (form_with v.time v.bus v.dlc v.id v.eight (λ n k. number_most 10 18446744073709551615 n (behind 5 s) k) (eight_read (take 16 (drop 5 (rest (rest (rest (rest (rest s)))))))))
-    h
+    form_with v.time v.bus v.dlc v.id v.eight x (λ n k. number_most 10 18446744073709551615 n (behind 5 s) k)
+    (λ z k. eight_read (take 16 (drop 5 (rest (rest (rest (rest (rest s))))))) z k) (kept s (entry_from v) x h).0
 
 -- ---- each line of an entry in form is read
 
@@ -146,12 +116,12 @@ raw_small : (i : Id) → can_id_in_range i ≡ true → raw_of i ≤ 0x1FFFFFFF
 raw_small (Standard n) h = let l = leb-true n 0x7FF h in omega arith
 raw_small (Extended n) h = leb-true n 0x1FFFFFFF h
 
-id_with_lem : (i : Id) → id_with (kind_of i) (Given (raw_of i)) ≡ Is i
+id_with_lem : (i : Id) → id_with (kind_of i) (Some (raw_of i)) ≡ Some i
 unfolding same_bytes
 id_with_lem (Standard n) = refl
 id_with_lem (Extended n) = refl
 
-id_read : (i : Id) → can_id_in_range i ≡ true → id_in (kind_of i) (hexadecimal_of (raw_of i)) ≡ Is i
+id_read : (i : Id) → can_id_in_range i ≡ true → id_in (kind_of i) (hexadecimal_of (raw_of i)) ≡ Some i
 unfolding id_in
 id_read i h =
     let l = raw_small i h in
@@ -245,26 +215,26 @@ module _ (e : Entry) (f : InForm e) where
       let n = f.eight in
       ap (λ (s : List ℕ). take 16 (drop 5 s)) rest_five ∙ take_at (hex_of e.frame.data) ((10 ∷ []) ++ []) 16 (omega arith)
 
-  time_is : number_in 10 18446744073709551615 (behind 5 (line_of e)) ≡ Given e.time
+  time_is : number_in 10 18446744073709551615 (behind 5 (line_of e)) ≡ Some e.time
   time_is = let h = f.time in ap (number_in 10 18446744073709551615) time_behind ∙ decimal_read 18446744073709551615 e.time (omega arith)
 
-  bus_is : number_in 10 18446744073709551615 (behind 4 (rest (line_of e))) ≡ Given e.frame.bus
+  bus_is : number_in 10 18446744073709551615 (behind 4 (rest (line_of e))) ≡ Some e.frame.bus
   bus_is = let h = f.bus in ap (number_in 10 18446744073709551615) bus_behind ∙ decimal_read 18446744073709551615 e.frame.bus (omega arith)
 
-  id_is : id_in (behind 5 (rest (rest (line_of e)))) (behind 3 (rest (rest (rest (line_of e))))) ≡ Is e.frame.id
+  id_is : id_in (behind 5 (rest (rest (line_of e)))) (behind 3 (rest (rest (rest (line_of e))))) ≡ Some e.frame.id
   id_is = ap₂ id_in kind_behind id_behind ∙ id_read e.frame.id f.id
 
-  dlc_is : number_in 10 18446744073709551615 (behind 4 (rest (rest (rest (rest (line_of e)))))) ≡ Given e.frame.dlc
+  dlc_is : number_in 10 18446744073709551615 (behind 4 (rest (rest (rest (rest (line_of e)))))) ≡ Some e.frame.dlc
   dlc_is = let h = f.dlc in ap (number_in 10 18446744073709551615) dlc_behind ∙ decimal_read 18446744073709551615 e.frame.dlc (omega arith)
 
-  data_is : data_in (take 16 (drop 5 (rest (rest (rest (rest (rest (line_of e)))))))) ≡ record { ok = true; bytes = e.frame.data }
+  data_is : data_in (take 16 (drop 5 (rest (rest (rest (rest (rest (line_of e)))))))) ≡ Some e.frame.data
   data_is = ap data_in data_behind ∙ data_read e.frame.data f.eight f.bytes
 
-  values_are : values_in (line_of e) ≡ record { time = Given e.time; bus = Given e.frame.bus; id = Is e.frame.id; dlc = Given e.frame.dlc; eight = record { ok = true; bytes = e.frame.data } }
+  values_are : values_in (line_of e) ≡ record { time = Some e.time; bus = Some e.frame.bus; id = Some e.frame.id; dlc = Some e.frame.dlc; eight = Some e.frame.data }
   unfolding values_in
   values_are = λ j. record { time = time_is j; bus = bus_is j; id = id_is j; dlc = dlc_is j; eight = data_is j }
 
   -- the line of an entry in form is read as that entry
-  pub every_line : read_line (line_of e) ≡ line_entry e
-  unfolding read_line if_line entry_from
+  pub every_line : read_line (line_of e) ≡ Some (line_entry e)
+  unfolding read_line entry_from
   every_line = rw (values_are, le-ltb 3 e.frame.bus f.bus, le-ltb 8 e.frame.dlc f.dlc, f.id, same_refl (line_of e))

@@ -1,16 +1,7 @@
 -- Words with spaces between them, and the values behind their keys.
-use mathlib.Core.Path.{◌≡◌, refl, ap, ap₂, sym, ◌∙◌}
-use mathlib.Core.Bool.{Bool, true, false, cond}
-use mathlib.Core.List.{List, [], ◌∷◌, ◌++◌, append_assoc}
-use Prim.Native.Nat.{ℕ, suc, ◌+◌, ◌-◌, ◌≤◌, ◌<◌}
-use native.Mathlib.Numerals.{add-one}
-use native.Mathlib.Omega.{arith}
-use borrow.Author.Tests.{ne_eqb}
-use lib.Dec.{eqb}
-use lib.ListN.{length, take, drop, length-append, length-drop, drop_of_length-le}
-use lib.Seq.{take_all, drop-drop, take_at, drop_at, drop-append-add}
+use Rattle.std.proofs.Common.{◌≡◌, refl, ap, ap₂, sym, ◌∙◌, Bool, true, false, cond, List, [], ◌∷◌, ◌++◌, append_assoc, ℕ, suc, ◌+◌, ◌-◌, ◌≤◌, add-one, arith, ne_eqb, ltb-true, ltb-false, eqb, ltb, min, length, take, drop, length-append, length-drop, drop_of_length-le, take_all, take_at, drop_at}
+use lib.Seq.{drop-append-add}
 use Rattle.word_table.specs.Words.{before}
-use Rattle.word_table.proofs.Laws.{before_le}
 use Rattle.frame_lines.specs.Guess.{behind, rest}
 
 -- no b stands in s
@@ -64,38 +55,40 @@ module _ (k xs r : List ℕ) (h : Without 32 k) (g : Without 32 xs) where
       ∙ (ap (drop (suc (length (k ++ xs)))) in_front
       ∙ (ap (λ (n : ℕ). drop n ((k ++ xs) ++ 32 ∷ r)) (sym (add-one (length (k ++ xs)))) ∙ drop-append-add (k ++ xs) (32 ∷ r) 1))
 
--- ---- what the code finds
+-- ---- what the code cuts out
 
--- past a space that is there, and at the end where there is none
-module _ (s : List ℕ) (at e : ℕ) (q : e ≡ at + before 32 (drop at s)) (inside : at ≤ length s) where
-  pub next_found : drop (e + 1) s ≡ rest (drop at s)
-  unfolding rest
-  next_found =
-      let d : e + 1 ≡ at + suc (before 32 (drop at s)) = omega arith in
-      ap (λ (n : ℕ). drop n s) d ∙ sym (drop-drop (suc (before 32 (drop at s))) at s)
-
-  pub next_end : length s ≤ e → drop (length s) s ≡ rest (drop at s)
-  unfolding rest
-  next_end h =
-      let l = length-drop at s in
-      let b = before_le 32 (drop at s) in
-      let k : length s ≤ length s = omega arith in
-      let m : length (drop at s) ≤ suc (before 32 (drop at s)) = omega arith in
-      drop_of_length-le s k ∙ sym (drop_of_length-le (drop at s) m)
-
--- behind more bytes than the word has stands nothing
-pub behind_short : (s : List ℕ) (n e : ℕ) → e ≡ 0 + before 32 (drop 0 s) → e < n → behind n s ≡ []
+-- the first word without its first n bytes
+pub behind_part : (s : List ℕ) (n e m : ℕ) → e ≡ 0 + before 32 (drop 0 s) → m ≡ min n e → take (e - m) (drop m s) ≡ behind n s
 unfolding behind
-behind_short s n e q h = let z : before 32 s - n ≡ 0 = omega arith in ap (λ (k : ℕ). take k (drop n s)) z
+behind_part s n e m q p = go (ltb e n) refl
+  where
+    z : before 32 s ≡ e
+    z = omega arith
 
--- what the code cuts out
-pub behind_part : (s : List ℕ) (n e : ℕ) → e ≡ 0 + before 32 (drop 0 s) → take (e - n) (drop n s) ≡ behind n s
-unfolding behind
-behind_part s n e q = let z : e ≡ before 32 s = omega arith in ap (λ (k : ℕ). take (k - n) (drop n s)) z
-
-pub found_inside : (s : List ℕ) (e : ℕ) → e ≡ 0 + before 32 (drop 0 s) → e ≤ length s
-found_inside s e q = let h = before_le 32 s in omega arith
+    go : (t : Bool) → ltb e n ≡ t → take (e - m) (drop m s) ≡ take (before 32 s - n) (drop n s)
+    go true h =
+        let l = ltb-true e n h in
+        let a : e - m ≡ 0 = omega arith in
+        let b : e - n ≡ 0 = omega arith in
+        rw (z, a, b)
+    go false h =
+        let l = ltb-false e n h in
+        let a : m ≡ n = omega arith in
+        rw (z, a)
 
 -- a part up to the end
-pub tail_is : (s x : List ℕ) (b : ℕ) → drop b s ≡ x → take (length s - b) (drop b s) ≡ x
-tail_is s x b e = let l = length-drop b s in take_all (length s - b) (drop b s) (omega arith) ∙ e
+tail_is : (s : List ℕ) (b : ℕ) → take (length s - b) (drop b s) ≡ drop b s
+tail_is s b = let l = length-drop b s in take_all (length s - b) (drop b s) (omega arith)
+
+-- past the space, and the end where there is none
+module _ (s : List ℕ) (e : ℕ) (q : e ≡ 0 + before 32 (drop 0 s)) where
+  pub rest_found : take (length s - (e + 1)) (drop (e + 1) s) ≡ rest s
+  unfolding rest
+  rest_found = let z : e + 1 ≡ suc (before 32 s) = omega arith in tail_is s (e + 1) ∙ ap (λ (n : ℕ). drop n s) z
+
+  pub rest_end : length s ≤ e → take (length s - length s) (drop (length s) s) ≡ rest s
+  unfolding rest
+  rest_end h =
+      let m : length s ≤ suc (before 32 s) = omega arith in
+      let k : length s ≤ length s = omega arith in
+      tail_is s (length s) ∙ (drop_of_length-le s k ∙ sym (drop_of_length-le s m))

@@ -1,6 +1,6 @@
 -- How a line is read. What may stand in it is taken as it comes, and the line of that is compared with it. That this reads
 -- exactly the lines of entries in form is proved (every_line, only_lines), so nothing here is to be believed.
-use Rattle.std.specs.Prelude.{true, false, cond, List, ℕ, suc, ◌-◌, ltb, take, drop, replicate}
+use Rattle.std.specs.Prelude.{cond, List, ℕ, suc, ◌-◌, ltb, take, drop, replicate, Option, Some, None}
 use Rattle.arrays.specs.Arrays.{same_bytes}
 use Rattle.frames.specs.Frames.{can_id_in_range}
 use Rattle.frames.specs.declared.Id.{Id}
@@ -10,11 +10,6 @@ use Rattle.log_entries.specs.Entries.{Entry, entry}
 use Rattle.word_table.specs.Words.{before}
 use Rattle.replay_digits.specs.Digits.{number_in}
 use Rattle.replay_values.specs.Values.{id_in, data_in}
-use Rattle.replay_values.specs.declared.CanId.{CanId}
-use Rattle.replay_values.specs.declared.CanId.TheVariants.{Is, NoId}
-use Rattle.replay_values.specs.declared.Data.{Data}
-use Rattle.replay_digits.specs.declared.Number.{Number}
-use Rattle.replay_digits.specs.declared.Number.TheVariants.{Given, NoNumber}
 use Rattle.frame_lines.specs.declared.LineEntry.{LineEntry}
 use Rattle.frame_lines.specs.declared.Values.{Values}
 use Rattle.frame_lines.specs.Lines.{line_of}
@@ -22,11 +17,8 @@ use Rattle.frame_lines.specs.Lines.{line_of}
 abbrev pub empty_frame : CanFrame
 empty_frame = record { bus = 0; id = Standard 0; «data» = replicate 8 0; dlc = 0 }
 
-abbrev pub no_line : LineEntry
-no_line = record { ok = false; time = 0; frame = empty_frame }
-
 abbrev pub line_entry : Entry → LineEntry
-line_entry e = record { ok = true; time = e.time; frame = e.frame }
+line_entry e = record { time = e.time; frame = e.frame }
 
 -- the first word without its first n bytes
 unfoldable pub behind : ℕ → List ℕ → List ℕ
@@ -47,28 +39,28 @@ values_in s = record {
 }
 
 -- the entry of values that are in range
-abbrev pub entry_if : ℕ → ℕ → Id → ℕ → Data → LineEntry
-entry_if t b i d eight =
-    cond (ltb 3 b) no_line
-    (cond (ltb 8 d) no_line
-    (cond eight.ok
-    (cond (can_id_in_range i) (line_entry (entry t (record { bus = b; id = i; «data» = eight.bytes; dlc = d }))) no_line)
-    no_line))
+abbrev pub entry_if : ℕ → ℕ → Id → ℕ → List ℕ → Option LineEntry
+entry_if t b i d bytes =
+    cond (ltb 3 b) None
+    (cond (ltb 8 d) None
+    (cond (can_id_in_range i) (Some (line_entry (entry t (record { bus = b; id = i; «data» = bytes; dlc = d })))) None))
 
 -- the entry of values that are all there and in range
-abbrev pub entry_with : Number → Number → CanId → Number → Data → LineEntry
-entry_with NoNumber bus id dlc eight = no_line
-entry_with (Given t) NoNumber id dlc eight = no_line
-entry_with (Given t) (Given b) NoId dlc eight = no_line
-entry_with (Given t) (Given b) (Is i) NoNumber eight = no_line
-entry_with (Given t) (Given b) (Is i) (Given d) eight = entry_if t b i d eight
+abbrev pub entry_with : Option ℕ → Option ℕ → Option Id → Option ℕ → Option (List ℕ) → Option LineEntry
+entry_with None bus id dlc eight = None
+entry_with (Some t) None id dlc eight = None
+entry_with (Some t) (Some b) None dlc eight = None
+entry_with (Some t) (Some b) (Some i) None eight = None
+entry_with (Some t) (Some b) (Some i) (Some d) None = None
+entry_with (Some t) (Some b) (Some i) (Some d) (Some bytes) = entry_if t b i d bytes
 
-unfoldable pub entry_from : Values → LineEntry
+unfoldable pub entry_from : Values → Option LineEntry
 entry_from v = entry_with v.time v.bus v.id v.dlc v.eight
 
--- e, if s is its line
-unfoldable pub if_line : List ℕ → LineEntry → LineEntry
-if_line s e = cond e.ok (cond (same_bytes (line_of (entry e.time e.frame)) s) e no_line) no_line
+-- what was read, if s is its line
+abbrev pub if_line : List ℕ → Option LineEntry → Option LineEntry
+if_line s None = None
+if_line s (Some e) = cond (same_bytes (line_of (entry e.time e.frame)) s) (Some e) None
 
-unfoldable pub read_line : List ℕ → LineEntry
+unfoldable pub read_line : List ℕ → Option LineEntry
 read_line s = if_line s (entry_from (values_in s))

@@ -3,25 +3,21 @@
 // of that is written and compared with it. So only what an entry's line looks like has to be known.
 #![tactic(auto)]
 
-ghost use Rattle.std.specs.Prelude.{◌≡◌, ◌≤◌, length, take, drop};
+ghost use Rattle.std.specs.Prelude.{◌≡◌, length, take, drop};
 ghost use Rattle.arrays.specs.Arrays.{same_bytes};
 ghost use Rattle.hexadecimal.specs.Hex.{hex_of};
 ghost use Rattle.replay_page.specs.Page.{page, text};
 ghost use Rattle.log_entries.specs.Entries.{entry};
-ghost use Rattle.replay_digits.specs.Digits.{number_in};
-ghost use Rattle.replay_values.specs.Values.{id_in, data_in};
+ghost use Rattle.replay_values.specs.Values.{data_in};
 ghost use Rattle.frame_lines.specs.Lines.{line_of, kind_of};
-ghost use Rattle.frame_lines.specs.Guess.{empty_frame, no_line, behind, rest, values_in, entry_if, entry_from, read_line};
+ghost use Rattle.frame_lines.specs.Guess.{empty_frame, behind, rest, values_in, entry_if, entry_from, read_line};
 ghost use Rattle.frame_lines.specs.Walk.{Laid, lay, front, back};
 
 use frames::{CanFrame, Id};
-use replay_digits::Number;
-use replay_values::{CanId, Data};
 
-// What a line says; not `ok`: it is not of the form (and zeros).
-#[derive(Clone, Copy)]
+// What a line says.
+#[derive(Clone, Copy, PartialEq, Eq)]
 pub struct LineEntry {
-    pub ok: bool,
     pub time: u64,
     pub frame: CanFrame,
 }
@@ -29,162 +25,93 @@ pub struct LineEntry {
 // What stands behind the keys of a line, of its form or not.
 #[derive(Clone, Copy)]
 struct Values {
-    time: Number,
-    bus: Number,
-    id: CanId,
-    dlc: Number,
-    eight: Data,
+    time: Option<u64>,
+    bus: Option<u64>,
+    id: Option<Id>,
+    dlc: Option<u64>,
+    eight: Option<[u8; 8]>,
 }
 
 // A frame of zeros.
 pub fn empty_frame() -> CanFrame
     ensures { result ≡ empty_frame }
 {
-    let data = [0u8; 8];
     CanFrame {
         bus: 0,
         id: Id::Standard(0),
-        data,
+        data: [0; 8],
         dlc: 0,
     }
 }
 
-fn no_entry() -> LineEntry
-    ensures { result ≡ no_line }
+// What stands behind the first space.
+fn rest(s: &[u8]) -> &[u8]
+    ensures { result.now ≡ rest s.now }
 {
-    let frame = empty_frame();
-    LineEntry {
-        ok: false,
-        time: 0,
-        frame,
+    let end = replay_script::find(s, 0, b' ');
+    if end < s.len() {
+        &s[end + 1..]
+    } else {
+        &s[s.len()..]
     }
 }
 
-// The place after the next space; the end if there is none.
-fn next(s: &[u8], at: usize) -> usize
-    requires { at ≤ length s.now }
-    ensures { (result ≤ length s.now) × (drop result s.now ≡ rest (drop at s.now)) }
+// The first word without its first `skip` bytes.
+#[tactic(auto, using(word_table::proofs::Laws::before_le))]
+fn behind(s: &[u8], skip: usize) -> &[u8]
+    ensures { result.now ≡ behind skip s.now }
 {
-    let e = replay_script::find(s, at, b' ');
-    if e < s.len() {
-        return e + 1;
-    }
-    s.len()
-}
-
-// The number in the first word, behind `skip` bytes of it.
-fn number_at(s: &[u8], skip: usize) -> Number
-    ensures { result ≡ number_in 10 18446744073709551615 (behind skip s.now) }
-{
-    let e = replay_script::find(s, 0, b' ');
-    if e < skip {
-        return Number::NoNumber;
-    }
-    replay_digits::number_in(&s[skip..e], 10, 18446744073709551615)
-}
-
-// The id of the words `kind=` and `id=`, at the fronts of two texts.
-fn id_at(kind: &[u8], id: &[u8]) -> CanId
-    ensures { result ≡ id_in (behind 5 kind.now) (behind 3 id.now) }
-{
-    let e = replay_script::find(kind, 0, b' ');
-    if e < 5 {
-        return CanId::NoId;
-    }
-    let f = replay_script::find(id, 0, b' ');
-    if f < 3 {
-        return CanId::NoId;
-    }
-    replay_values::can_id_in(&kind[5..e], &id[3..f])
+    let end = replay_script::find(s, 0, b' ');
+    &s[skip.min(end)..end]
 }
 
 // The bytes behind `data=`.
-fn data_at(s: &[u8]) -> Data
+fn data_at(s: &[u8]) -> Option<[u8; 8]>
     ensures { result ≡ data_in (take 16 (drop 5 s.now)) }
 {
-    if s.len() < 21 {
-        let bytes = [0u8; 8];
-        return Data { ok: false, bytes };
-    }
-    replay_values::data_in(&s[5..21])
+    replay_values::data_in(s.get(5..21)?)
 }
 
 // What stands behind the keys.
+#[tactic(auto, unfolding(crate::specs::Guess::values_in))]
 fn values_in(s: &[u8]) -> Values
     ensures { result ≡ values_in s.now }
 {
-    let b = next(s, 0);
-    let c = next(s, b);
-    let d = next(s, c);
-    let e = next(s, d);
-    let f = next(s, e);
-    let time = number_at(s, 5);
-    let bus = number_at(&s[b..], 4);
-    let id = id_at(&s[c..], &s[d..]);
-    let dlc = number_at(&s[e..], 4);
-    let eight = data_at(&s[f..]);
+    let bus = rest(s);
+    let kind = rest(bus);
+    let id = rest(kind);
+    let dlc = rest(id);
     Values {
-        time,
-        bus,
-        id,
-        dlc,
-        eight,
+        time: replay_digits::number_in(behind(s, 5), 10, u64::MAX),
+        bus: replay_digits::number_in(behind(bus, 4), 10, u64::MAX),
+        id: replay_values::can_id_in(behind(kind, 5), behind(id, 3)),
+        dlc: replay_digits::number_in(behind(dlc, 4), 10, u64::MAX),
+        eight: data_at(rest(dlc)),
     }
 }
 
 // The entry of values that are in range.
-fn entry_if(time: u64, bus: u64, id: Id, dlc: u64, eight: Data) -> LineEntry
-    ensures { result ≡ entry_if time bus id dlc eight }
+fn entry_if(time: u64, bus: u64, id: Id, dlc: u64, data: [u8; 8]) -> Option<LineEntry>
+    ensures { result ≡ entry_if time bus id dlc «data» }
 {
-    if 3 < bus {
-        return no_entry();
+    if bus > 3 || dlc > 8 || !frames::can_id_in_range(id) {
+        return None;
     }
-    if 8 < dlc {
-        return no_entry();
-    }
-    if eight.ok {
-        if frames::can_id_in_range(id) {
-            let data = eight.bytes;
-            let frame = CanFrame {
-                bus: bus as u8,
-                id,
-                data,
-                dlc: dlc as u8,
-            };
-            return LineEntry {
-                ok: true,
-                time,
-                frame,
-            };
-        }
-        return no_entry();
-    }
-    no_entry()
+    let frame = CanFrame {
+        bus: bus as u8,
+        id,
+        data,
+        dlc: dlc as u8,
+    };
+    Some(LineEntry { time, frame })
 }
 
 // The entry of values that are all there and in range.
 #[tactic(auto, unfolding(crate::specs::Guess::entry_from))]
-fn entry_of(v: Values) -> LineEntry
+fn entry_of(v: Values) -> Option<LineEntry>
     ensures { result ≡ entry_from v }
 {
-    let time = v.time;
-    let Number::Given(t) = time else {
-        return no_entry();
-    };
-    let bus = v.bus;
-    let Number::Given(b) = bus else {
-        return no_entry();
-    };
-    let some = v.id;
-    let CanId::Is(id) = some else {
-        return no_entry();
-    };
-    let dlc = v.dlc;
-    let Number::Given(d) = dlc else {
-        return no_entry();
-    };
-    let eight = v.eight;
-    entry_if(t, b, id, d, eight)
+    entry_if(v.time?, v.bus?, v.id?, v.dlc?, v.eight?)
 }
 
 #[tactic(auto, unfolding(replay_page::specs::Page::text))]
@@ -205,61 +132,51 @@ fn put_data(out: &mut [u8], at: usize, data: [u8; 8]) -> usize
 }
 
 // A line up to its id.
-fn put_front(out: &mut [u8], time: u64, f: CanFrame) -> usize
-    ensures { page out.new result ≡ lay (front (entry time f)) (page out.old 0) }
+#[tactic(auto, unfolding(replay_page::specs::Page::item, crate::specs::Walk::lay))]
+fn put_front(out: &mut [u8], e: LineEntry) -> usize
+    ensures { page out.new result ≡ lay (front (entry e.time e.frame)) (page out.old 0) }
 {
-    let id = f.id;
-    let k = replay_page::put_item(out, 0, b"time=", time);
-    let k = replay_page::put_item(out, k, b" bus=", f.bus as u64);
+    let k = replay_page::put_item(out, 0, b"time=", e.time);
+    let k = replay_page::put_item(out, k, b" bus=", u64::from(e.frame.bus));
     let k = replay_page::put_text(out, k, b" kind=");
-    let k = put_kind(out, k, id);
+    let k = put_kind(out, k, e.frame.id);
     replay_page::put_text(out, k, b" id=")
 }
 
 // A line behind its id.
+#[tactic(auto, unfolding(replay_page::specs::Page::item, crate::specs::Walk::lay))]
 fn put_back(out: &mut [u8], at: usize, f: CanFrame) -> usize
     ensures { page out.new result ≡ lay (back f) (page out.old at) }
 {
-    let data = f.data;
-    let k = replay_page::put_item(out, at, b" dlc=", f.dlc as u64);
+    let k = replay_page::put_item(out, at, b" dlc=", u64::from(f.dlc));
     let k = replay_page::put_text(out, k, b" data=");
-    let k = put_data(out, k, data);
+    let k = put_data(out, k, f.data);
     replay_page::put_text(out, k, b"\n")
 }
 
 // Writes the line of an entry over `out`, and answers its length. 85 bytes are room for any bus and dlc of a byte.
-fn put_line(out: &mut [u8], time: u64, f: CanFrame) -> usize
+fn put_line(out: &mut [u8], e: LineEntry) -> usize
     requires { length out.old ≡ 85 }
-    ensures { Laid 85 (page out.new result) (line_of (entry time f)) }
+    ensures { Laid 85 (page out.new result) (line_of (entry e.time e.frame)) }
 {
-    let id = f.id;
-    let k = put_front(out, time, f);
-    let k = replay_page::put_hexadecimal(out, k, frames::id_raw(id));
-    put_back(out, k, f)
+    let k = put_front(out, e);
+    let k = replay_page::put_hexadecimal(out, k, frames::id_raw(e.frame.id));
+    put_back(out, k, e.frame)
 }
 
 // Whether these bytes are the line of an entry.
-fn is_line(s: &[u8], time: u64, f: CanFrame) -> bool
-    ensures { result ≡ same_bytes (line_of (entry time f)) s.now }
+fn is_line(s: &[u8], e: LineEntry) -> bool
+    ensures { result ≡ same_bytes (line_of (entry e.time e.frame)) s.now }
 {
     let mut line = [0u8; 85];
-    let n = put_line(&mut line, time, f);
+    let n = put_line(&mut line, e);
     arrays::same_bytes(&line[..n], s)
 }
 
 // The entry whose line these bytes are.
-pub fn read_line(s: &[u8]) -> LineEntry
+#[tactic(auto, unfolding(crate::specs::Guess::read_line))]
+pub fn read_line(s: &[u8]) -> Option<LineEntry>
     ensures { result ≡ read_line s.now }
 {
-    let none = no_entry();
-    let v = values_in(s);
-    let e = entry_of(v);
-    if e.ok {
-        let f = e.frame;
-        if is_line(s, e.time, f) {
-            return e;
-        }
-        return none;
-    }
-    none
+    entry_of(values_in(s)).filter(|e| is_line(s, *e))
 }
