@@ -2,7 +2,7 @@
 // program reads and writes is open to a contract: `print_listing` and `main` give nothing back.
 #![tactic(auto)]
 
-use input::Input;
+use listing::Listing;
 use std::io::Error;
 
 // Says what failed, and why.
@@ -11,10 +11,8 @@ fn fail(rt: &impl Eprint, stream: &str, error: Error) {
 }
 
 fn print_listing(rt: &(impl Print + Eprint), input: &[u8]) {
-    let listing = listing::list_record(input);
-    let bytes = listing.bytes;
-    let n = listing.len;
-    if let Err(e) = rt.write_all(&bytes[..n]) {
+    let Listing { bytes, len } = listing::list_record(input);
+    if let Err(e) = rt.write_all(&bytes[..len]) {
         fail(rt, "standard output", e);
     }
 }
@@ -23,7 +21,7 @@ fn print_listing(rt: &(impl Print + Eprint), input: &[u8]) {
 fn main(rt: HostRuntime) {
     let mut buf = [0u8; 8193];
     match input::read_input(&mut rt.stdin(), &mut buf) {
-        Input::Bytes(n) => print_listing(&rt, &buf[..n]),
-        Input::Failed(e) => fail(&rt, "standard input", e),
+        Ok(n) => print_listing(&rt, &buf[..n]),
+        Err(e) => fail(&rt, "standard input", e),
     }
 }
