@@ -1,6 +1,6 @@
 -- A message taken in piece by piece has the digest of the whole, wherever it was cut.
 use Rattle.std.proofs.Common.{◌≡◌, ℕ, ◌+◌, ◌-◌, ◌*◌, ◌/◌, ◌<◌, List, ◌++◌, length, take, drop, sym, ap, ◌∙◌, append_assoc, zero-add, arith, length-append, length-drop, take-append-drop, length-take-le}
-use lib.Seq.{drop-append-add}
+use Rattle.std.proofs.Math.Seq.{drop-append-add}
 use Rattle.sha256.specs.Sha256.{H₀, hash_from, finished, sha256}
 use Rattle.sha256.specs.Pieces.{Progress, opened, absorbed, closed, TwoPieces, CutAnywhere}
 use Rattle.sha256.proofs.Pieces.{hash_from_front, hash_from_append, finished_rest}

@@ -1,7 +1,9 @@
 -- How two pieces are taken in: what is left of the first and the front of the second in one block, and then the rest.
 use Rattle.std.proofs.Common.{◌≡◌, ℕ, ◌+◌, ◌-◌, ◌*◌, ◌/◌, ◌%◌, ◌^◌, ◌≤◌, List, [], ◌∷◌, ◌++◌, length, take, drop, replicate, sym, ap, ◌∙◌, ap₂, append_assoc, append-nil, le_of_eq, arith, length-append, length-drop, take-append-drop, length-take-le, take_all}
-use Rattle.arrays.proofs.Laws.{padded_take, put_padded}
-use Rattle.arrays.specs.Arrays.{padded, put}
+use Rattle.std.proofs.lemmas.List.{drop-replicate}
+use borrow.Rule.Slice.PartMut.{put_mid}
+use Rattle.arrays.proofs.Laws.{padded_take, put_is, put_padded}
+use Rattle.arrays.specs.Arrays.{padded}
 use Rattle.sha256.specs.Sha256.{H₀, k, hash_from, finished, pad_last, bytes, bytes4, bytes8}
 use Rattle.sha256.specs.Pieces.{opened, absorbed, closed}
 use Rattle.sha256.proofs.CutAnywhere.{closed_absorbed}
@@ -53,37 +55,45 @@ module _ (a : List ℕ) where
       ∙ sym (finished_wraps h (left ++ b) (length a + length b))
       ∙ ap (finished h (left ++ b)) (sym sum)
 
-  -- they are laid down in a block t, and then c behind them
-  laid : (c : List ℕ) {t u : List ℕ} → t ≡ put (replicate 64 0) 0 (take (length a - from) left) → u ≡ put t n c → u ≡ padded 64 0 (left ++ c)
+  -- they are laid down in a block of zeros
+  laid : {x : List ℕ} → x ≡ take (length a - from) left → x ++ drop n (replicate 64 0) ≡ padded 64 0 left
   unfolding left from n padded
-  laid c e f =
+  laid e =
       let all : take (length a - from) left ≡ left = take_all (length a - from) left (le_of_eq (length-drop from a)) in
-      f
-      ∙ ap₂ (λ (d : List ℕ) (x : ℕ). put d x c) (e ∙ ap (put (replicate 64 0) 0) all ∙ put_padded 64 0 [] left) (sym left_length)
-      ∙ put_padded 64 0 left c
+      ap₂ (λ (p q : List ℕ). p ++ q) (e ∙ all) (drop-replicate n 64 0 ∙ ap (λ (m : ℕ). replicate (64 - m) 0) (sym left_length))
+
+  -- and c behind them
+  behind : {x y : List ℕ} (c : List ℕ) → x ≡ take (length a - from) left → y ≡ c → put_mid n (n + length c - n) (x ++ drop n (replicate 64 0)) y ≡ padded 64 0 (left ++ c)
+  unfolding left from n padded
+  behind c e f =
+      let at = sym left_length in
+      (λ i. put_mid (at i) (at i + length c - at i) (laid e i) (f i)) ∙ put_is (padded 64 0 left) (length left) c ∙ put_padded 64 0 left c
 
   -- the second piece ends in that block
-  pub ends_in_block : (b : List ℕ) (total : ℕ) {h t u d : List ℕ} → total ≡ (length a + length b) % 2 ^ 64 → h ≡ hash_from H₀ a (length a / 64)
-      → t ≡ put (replicate 64 0) 0 (take (length a - (length a - length a % 64)) (drop (length a - length a % 64) a)) → u ≡ put t (length a % 64) b
-      → d ≡ finished h (take (length a % 64 + length b) u) total → d ≡ closed (absorbed (absorbed opened a) b)
+  pub ends_in_block : (b : List ℕ) (total : ℕ) {h x y d : List ℕ} → total ≡ (length a + length b) % 2 ^ 64 → h ≡ hash_from H₀ a (length a / 64)
+      → x ≡ take (length a - (length a - length a % 64)) (drop (length a - length a % 64) a) → y ≡ b
+      → d ≡ finished h (take (length a % 64 + length b) (put_mid (length a % 64) (length a % 64 + length b - length a % 64) (x ++ drop (length a % 64) (replicate 64 0)) y)) total
+      → d ≡ closed (absorbed (absorbed opened a) b)
   unfolding left from n
   ends_in_block b total {h} sum e f g r =
       let l : length a % 64 + length b ≡ length (left ++ b) = sym (length-append left b ∙ ap (λ (x : ℕ). x + length b) left_length) in
       r
-      ∙ ap (λ (s : List ℕ). finished h s total) (ap₂ take l (laid b f g) ∙ padded_take 64 0 (left ++ b))
+      ∙ ap (λ (s : List ℕ). finished h s total) (ap₂ take l (behind b f g) ∙ padded_take 64 0 (left ++ b))
       ∙ sym (joined b total sum e)
 
   -- the second piece fills the block, and goes on behind it
-  pub fills_block : (b : List ℕ) (total room : ℕ) {h t u g d : List ℕ} → room ≡ 64 - length a % 64 → room ≤ length b
+  pub fills_block : (b : List ℕ) (total room : ℕ) {h x y u g d : List ℕ} → room ≡ 64 - length a % 64 → room ≤ length b
       → total ≡ (length a + length b) % 2 ^ 64 → h ≡ hash_from H₀ a (length a / 64)
-      → t ≡ put (replicate 64 0) 0 (take (length a - (length a - length a % 64)) (drop (length a - length a % 64) a))
-      → u ≡ put t (length a % 64) (take room b) → g ≡ hash_from h u (length u / 64) → d ≡ finished g (take (length b - room) (drop room b)) total
-      → d ≡ closed (absorbed (absorbed opened a) b)
+      → x ≡ take (length a - (length a - length a % 64)) (drop (length a - length a % 64) a) → y ≡ take room b
+      → u ≡ put_mid (length a % 64) (64 - length a % 64) (x ++ drop (length a % 64) (replicate 64 0)) y → g ≡ hash_from h u (length u / 64)
+      → d ≡ finished g (take (length b - room) (drop room b)) total → d ≡ closed (absorbed (absorbed opened a) b)
   unfolding left from n
-  fills_block b total room {h} q fits sum e f p s r =
+  fills_block b total room {h} {x} {y} q fits sum e f p w s r =
       let c = take room b in
       let long : length (left ++ c) ≡ 64 = length-append left c ∙ ap₂ ◌+◌ left_length (length-take-le room b fits) ∙ omega arith in
-      let block = laid c f p ∙ padded_full 64 (left ++ c) long in
+      let k : 64 - length a % 64 ≡ length a % 64 + length c - length a % 64 = omega (arith, length-take-le room b fits) in
+      let block =
+      w ∙ ap (λ (m : ℕ). put_mid (length a % 64) m (x ++ drop (length a % 64) (replicate 64 0)) y) k ∙ behind c f p ∙ padded_full 64 (left ++ c) long in
       let one : length (left ++ c) / 64 ≡ 1 = omega arith in
       let all : take (length b - room) (drop room b) ≡ drop room b = take_all (length b - room) (drop room b) (le_of_eq (length-drop room b)) in
       let first = s ∙ ap (λ (x : List ℕ). hash_from h x (length x / 64)) block ∙ ap (hash_from h (left ++ c)) one in

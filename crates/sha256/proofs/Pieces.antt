@@ -1,6 +1,6 @@
 -- A message in pieces: from block to block, and cut at a block.
 use Rattle.std.proofs.Common.{◌≡◌, ℕ, zero, suc, ◌+◌, ◌-◌, ◌*◌, ◌/◌, ◌%◌, ◌^◌, ◌<◌, ◌≤◌, Bool, true, false, ltb, List, [], ◌∷◌, ◌++◌, length, get_or, take, drop, replicate, sym, refl, ap, ◌∙◌, ap₂, append_assoc, add-zero, add-suc, add-one, arith, length-append, length-drop, take-append-drop, length-take-le, get_or-append-add, ltb-true}
-use lib.ListN.{get_or-append, length-replicate}
+use Rattle.std.proofs.Math.ListN.{get_or-append, length-replicate}
 use Rattle.sha256_block.specs.Block.{word, M, W, next, rounds, plus}
 use Rattle.sha256.specs.Sha256.{hash_from, k, pad, pad_last, bytes, bytes8, finished, sha256, block_count, H₀}
 
@@ -55,9 +55,9 @@ hash_from_append h a c i (suc j) l =
     rw add-suc (ap₂ (λ (w g : List ℕ). plus (rounds w g 64) g) f e)
 
 -- one block more
-pub block_is : (h p : List ℕ) (i : ℕ) {s r : List ℕ} → s ≡ hash_from h p i → r ≡ plus (rounds (W (M p i) 64) s 64) s → r ≡ hash_from h p (i + 1)
+pub block_more : (h p : List ℕ) (i : ℕ) → hash_from h p (i + 1) ≡ plus (rounds (W (M p i) 64) (hash_from h p i) 64) (hash_from h p i)
 unfolding hash_from
-block_is h p i e f = rw add-one (f ∙ ap (λ (g : List ℕ). plus (rounds (W (M p i) 64) g 64) g) e)
+block_more h p i = rw add-one
 
 -- ---- the padding of a longer message
 

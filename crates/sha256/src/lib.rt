@@ -1,13 +1,12 @@
 // SHA-256 (FIPS 180-4). The definition is specs/Sha256.antt, that of a message in pieces specs/Pieces.antt.
 #![tactic(auto)]
 
-ghost use Rattle.std.specs.Prelude.{◌≡◌, ◌*◌, ◌/◌, ◌%◌, ◌<◌, length};
+ghost use Rattle.std.specs.Prelude.{◌≡◌, ◌*◌, ◌/◌, ◌<◌, length};
 ghost use Rattle.arrays.specs.Arrays.{padded};
 ghost use Rattle.sha256.specs.Pieces.{opened, absorbed, closed};
-ghost use Rattle.sha256.specs.Sha256.{H₀, bytes, bytes4, block_count, hash_from, pad_last, finished};
+ghost use Rattle.sha256.specs.Sha256.{H₀, bytes, block_count, hash_from, pad_last, finished};
 ghost use Rattle.sha256.specs.Sha256 as Sha;
 
-use arrays::put;
 use sha256_block::compress;
 
 // FIPS 180-4, 5.3.3.
@@ -31,31 +30,16 @@ pub fn initial() -> [u32; 8]
 
 // The hash value after the whole blocks of `m`, from the hash value `h`. Bytes past the last whole block are not looked
 // at.
+#[tactic(auto, using(crate::proofs::Pieces::block_more), unfolding(crate::specs::Sha256::hash_from))]
 pub fn hash_blocks(h: [u32; 8], m: &[u8]) -> [u32; 8]
     ensures { result ≡ hash_from h m.now (length m.now / 64) }
 {
     let mut s = h;
-    let n = m.len() / 64;
-    let mut i = 0;
-    while i < n {
-        let v = compress(s, m, i);
-        s = v;
-        i += 1;
+    for i in 0..m.len() / 64 {
+        let next = compress(s, m, i);
+        s = next;
     }
     s
-}
-
-fn byte(x: u32) -> u8
-    ensures { result ≡ x % 256 }
-{
-    (x % 256) as u8
-}
-
-// The bytes of `x`, the most significant first.
-fn big4(x: u32) -> [u8; 4]
-    ensures { result ≡ bytes4 x }
-{
-    [byte(x >> 24), byte(x >> 16), byte(x >> 8), byte(x)]
 }
 
 // The bytes of a hash value.
@@ -63,10 +47,8 @@ fn out(s: [u32; 8]) -> [u8; 32]
     ensures { result ≡ bytes s }
 {
     let mut r = [0u8; 32];
-    let mut i = 0;
-    while i < 8 {
-        put(&mut r, 4 * i, &big4(s[i]));
-        i += 1;
+    for (i, word) in s.iter().enumerate() {
+        r[4 * i..4 * i + 4].copy_from_slice(&word.to_be_bytes());
     }
     r
 }
@@ -87,14 +69,9 @@ fn last(rest: &[u8], total: u64) -> [u8; 128]
     let mut t = [0u8; 128];
     let n = rest.len();
     let e = end(n);
-    put(&mut t, 0, rest);
+    t[..n].copy_from_slice(rest);
     t[n] = 0x80;
-    put(
-        &mut t,
-        e - 8,
-        &big4((total / 0x2000_0000 % 0x1_0000_0000) as u32),
-    );
-    put(&mut t, e - 4, &big4((total % 0x2000_0000 * 8) as u32));
+    t[e - 8..e].copy_from_slice(&total.wrapping_mul(8).to_be_bytes());
     t
 }
 
@@ -104,15 +81,13 @@ pub fn finish(h: [u32; 8], rest: &[u8], total: u64) -> [u8; 32]
     ensures { result ≡ finished h rest.now total }
 {
     let n = rest.len() % 64;
-    let from = rest.len() - n;
-    let g = hash_blocks(h, rest);
-    let t = last(&rest[from..], total);
-    let e = end(n);
-    out(hash_blocks(g, &t[..e]))
+    let t = last(&rest[rest.len() - n..], total);
+    out(hash_blocks(hash_blocks(h, rest), &t[..end(n)]))
 }
 
 // The message digest of `m`. FIPS 180-4 takes messages of fewer than 2^61 bytes; past that the length is taken modulo
 // 2^64 bits.
+#[tactic(auto, unfolding(crate::specs::Sha256::sha256, crate::specs::Sha256::finished))]
 pub fn sha256(m: &[u8]) -> [u8; 32]
     ensures { result ≡ Sha.sha256 m.now }
 {
@@ -125,28 +100,24 @@ pub fn sha256(m: &[u8]) -> [u8; 32]
 pub fn sha256_of_two(a: &[u8], b: &[u8]) -> [u8; 32]
     ensures { result ≡ closed (absorbed (absorbed opened a.now) b.now) }
 {
-    let size = a.len();
-    let n = size % 64;
-    let from = size - n;
-    let more = b.len();
-    let total = std::num::wrapping_add_u64(size as u64, more as u64);
+    let n = a.len() % 64;
+    let total = (a.len() as u64).wrapping_add(b.len() as u64);
     let h = hash_blocks(H0, a);
     let mut t = [0u8; 64];
-    put(&mut t, 0, &a[from..]);
+    t[..n].copy_from_slice(&a[a.len() - n..]);
     let room = 64 - n;
-    if more < room {
-        put(&mut t, n, b);
-        let e = n + more;
+    if b.len() < room {
+        let e = n + b.len();
+        t[n..e].copy_from_slice(b);
         return finish(h, &t[..e], total);
     }
-    put(&mut t, n, &b[..room]);
-    let g = hash_blocks(h, &t);
-    finish(g, &b[room..], total)
+    t[n..].copy_from_slice(&b[..room]);
+    finish(hash_blocks(h, &t), &b[room..], total)
 }
 
 // How many blocks the padded message of `n` bytes has.
 pub fn block_count(n: u64) -> u64
     ensures { result ≡ block_count n }
 {
-    if n % 64 < 56 { n / 64 + 1 } else { n / 64 + 2 }
+    n / 64 + if n % 64 < 56 { 1 } else { 2 }
 }

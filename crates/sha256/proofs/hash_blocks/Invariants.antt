@@ -1,10 +1,7 @@
--- The invariant: s is the hash value after i blocks.
-use Rattle.std.proofs.Common.{◌≡◌, ◌-◌, ◌≤◌}
+-- s is the hash value after i blocks.
+use Rattle.std.proofs.Common.{◌≡◌}
 use Rattle.sha256.specs.Sha256.{hash_from}
 use Rattle.sha256.proofs.hash_blocks.Given as goal
 
 abbrev pub invariant-loop-i : goal.invariant-loop-i
-invariant-loop-i l = (l.i ≤ l.n) × (l.s ≡ hash_from l.initial.s l.m l.i)
-
-abbrev pub decreases-loop-i : goal.decreases-loop-i
-decreases-loop-i l = l.n - l.i
+invariant-loop-i l = l.s ≡ hash_from l.fn.h l.m l.i
