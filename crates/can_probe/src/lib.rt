@@ -7,35 +7,25 @@ ghost use Rattle.can_probe.specs.Calls.{is_valid_probe, window_changed, open_pro
 use frames::ProbeFrame;
 use state::{Answer, Core, Policy, Probe, Said};
 
+#[tactic(auto, unfolding(crate::specs::Calls::is_valid_probe, range::specs::Range::within))]
 fn is_valid_probe(p: Policy, bus: u8, frames: [ProbeFrame; 4], count: usize) -> bool
     ensures { result ≡ is_valid_probe p bus frames count }
 {
-    if frames::bus_exists(bus) {
-        let buses = p.buses;
-        if policy::is_can_fd_bus(buses, bus) {
-            return false;
-        }
-        if count < 1 {
-            return false;
-        }
-        if 4 < count {
-            return false;
-        }
-        return probe_window::ids_in_range(frames, count);
-    }
-    false
+    frames::bus_exists(bus)
+        && !policy::is_can_fd_bus(p.buses, bus)
+        && (1..=4).contains(&count)
+        && probe_window::ids_in_range(frames, count)
 }
 
+#[tactic(auto, unfolding(crate::specs::Calls::window_changed))]
 fn window_changed(core: Core, answer: Answer, b: Probe) -> Said
     ensures { result ≡ window_changed core answer b }
 {
-    let policy = core.policy;
-    let value = policy::is_can_read_only(policy);
-    let signals = state::replies::read_only_changed(value);
-    let c = state::parts::with_probe(core, b);
-    state::replies::reply(c, answer, signals)
+    let signals = state::replies::read_only_changed(policy::is_can_read_only(core.policy));
+    state::replies::reply(state::parts::with_probe(core, b), answer, signals)
 }
 
+#[tactic(auto, unfolding(crate::specs::Calls::open_probe, state::specs::Checks::checked))]
 pub fn open_identity_probe(
     core: Core,
     bus: u8,
@@ -45,56 +35,52 @@ pub fn open_identity_probe(
 ) -> Said
     ensures { result ≡ open_probe core bus frames count clock }
 {
-    let policy = core.policy;
-    if is_valid_probe(policy, bus, frames, count) {
-        let identity = policy.identity;
-        if probe_window::is_probe_needed(identity) {
-            if policy.buses.logging {
-                return state::replies::leave(core, Answer::Logging);
-            }
-            let mut b = core.probe;
-            let heard = b.heard;
-            let marks = b.marks;
-            if probe_window::is_bus_awake(heard, marks, bus, clock) {
-                if b.window.present {
-                    return state::replies::leave(core, Answer::Busy);
-                }
-                if b.attempts < 5 {
-                    let opened = probe_window::new_window(bus, frames, count, clock, b.relocks);
-                    b.window = opened;
-                    b.attempts += 1;
-                    return window_changed(core, Answer::Done, b);
-                }
-                return state::replies::leave(core, Answer::NoAttemptsLeft);
-            }
-            return state::replies::leave(core, Answer::BusAsleep);
-        }
+    let b = core.probe;
+    if !is_valid_probe(core.policy, bus, frames, count) {
+        return state::replies::leave(core, Answer::Invalid);
+    }
+    if !probe_window::is_probe_needed(core.policy.identity) {
         return state::replies::leave(core, Answer::NotNeeded);
     }
-    state::replies::leave(core, Answer::Invalid)
+    if core.policy.buses.logging {
+        return state::replies::leave(core, Answer::Logging);
+    }
+    if !probe_window::is_bus_awake(b.heard, b.marks, bus, clock) {
+        return state::replies::leave(core, Answer::BusAsleep);
+    }
+    if b.window.present {
+        return state::replies::leave(core, Answer::Busy);
+    }
+    if 5 <= b.attempts {
+        return state::replies::leave(core, Answer::NoAttemptsLeft);
+    }
+    let opened = Probe {
+        window: probe_window::new_window(bus, frames, count, clock, b.relocks),
+        attempts: b.attempts + 1,
+        ..b
+    };
+    window_changed(core, Answer::Done, opened)
 }
 
+#[tactic(auto, unfolding(crate::specs::Calls::close_probe))]
 pub fn close_identity_probe(core: Core) -> Said
     ensures { result ≡ close_probe core }
 {
-    let b = core.probe;
-    if b.window.present {
-        let none = probe_window::no_window();
-        let closed = state::parts::with_window(b, none);
-        return window_changed(core, Answer::Yes, closed);
+    if !core.probe.window.present {
+        return state::replies::leave(core, Answer::No);
     }
-    state::replies::leave(core, Answer::No)
+    let closed = state::parts::with_window(core.probe, probe_window::no_window());
+    window_changed(core, Answer::Yes, closed)
 }
 
 // note_can_rx.
+#[tactic(auto, unfolding(crate::specs::Calls::heard))]
 pub fn heard_can_frame(core: Core, bus: u8, clock: u64) -> Said
     ensures { result ≡ heard core bus clock }
 {
     if frames::bus_exists(bus) {
-        let old = core.probe;
-        let b = probe_window::heard_at(old, bus, clock);
-        let c = state::parts::with_probe(core, b);
-        return state::replies::quiet(c, Answer::Done);
+        let b = probe_window::heard_at(core.probe, bus, clock);
+        return state::replies::quiet(state::parts::with_probe(core, b), Answer::Done);
     }
     state::replies::leave(core, Answer::Done)
 }

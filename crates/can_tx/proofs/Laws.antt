@@ -3,6 +3,7 @@ use mathlib.Core.Path.{◌≡◌, refl}
 use mathlib.Core.Bool.{Bool, true, false, cond, not, ◌&&◌}
 use Prim.Native.Nat.{ℕ}
 use lib.Dec.{eqb}
+use Rattle.std.specs.Prelude.{Option, Some, None}
 use Rattle.frames.specs.declared.CanFrame.{CanFrame}
 use Rattle.frames.specs.declared.TxClass.{TxClass}
 use Rattle.frames.specs.declared.TxClass.TheVariants.{Platform, Command}
@@ -12,8 +13,6 @@ use Rattle.state.specs.declared.Said.{Said}
 use Rattle.state.specs.declared.Answer.TheVariants as Answer
 use Rattle.state.specs.Replies.{leave, quiet, yes_no}
 use Rattle.state.specs.Checks.{checked}
-use Rattle.probe_window.specs.declared.Unsent.{Unsent}
-use Rattle.probe_window.specs.declared.Unsent.TheVariants.{At, Nothing}
 use Rattle.probe_window.specs.Window.{is_open, unsent_in}
 use Rattle.policy.specs.Policy.{is_bus_read_only}
 use Rattle.can_tx.specs.declared.Verdict.{Verdict}
@@ -26,10 +25,10 @@ module _ (c : Core) where
   either_said true x y o q e f = e
   either_said false x y o q e f = f
 
-  found_said : (u : Unsent) → said_by c (found_as u) ≡ passed c u
+  found_said : (u : Option ℕ) → said_by c (found_as u) ≡ passed c u
   unfolding leave quiet
-  found_said Nothing = refl
-  found_said (At i) = refl
+  found_said None = refl
+  found_said (Some i) = refl
 
   window_said : (bus : ℕ) (frame : CanFrame) (clock : ℕ) → said_by c (window_verdict c bus frame clock) ≡ through_window c bus frame clock
   unfolding window_verdict through_window leave quiet

@@ -1,5 +1,5 @@
 -- The check of every outbound frame (can_probe.rs).
-use Rattle.std.specs.Prelude.{Bool, cond, not, ◌&&◌, [], ◌∷◌, ℕ, eqb}
+use Rattle.std.specs.Prelude.{Bool, cond, not, ◌&&◌, [], ◌∷◌, ℕ, Option, Some, None, eqb}
 use Rattle.frames.specs.declared.CanFrame.{CanFrame}
 use Rattle.frames.specs.declared.TxClass.{TxClass}
 use Rattle.frames.specs.declared.TxClass.TheVariants.{Platform, Command}
@@ -12,14 +12,12 @@ use Rattle.state.specs.Parts.{with_probe, with_window}
 use Rattle.state.specs.Replies.{leave, quiet, yes_no}
 use Rattle.state.specs.Checks.{◌refuses◌, checked}
 use Rattle.policy.specs.Policy.{is_bus_read_only}
-use Rattle.probe_window.specs.declared.Unsent.{Unsent}
-use Rattle.probe_window.specs.declared.Unsent.TheVariants.{At, Nothing}
 use Rattle.probe_window.specs.Window.{is_open, unsent_in, marked_sent}
 
 -- a frame that only an open window lets through: the first unsent equal entry is marked
-abbrev pub passed : Core → Unsent → Said
-passed c Nothing = leave c No
-passed c (At i) = quiet (with_probe c (with_window c.probe (marked_sent c.probe.window i))) Yes
+abbrev pub passed : Core → Option ℕ → Said
+passed c None = leave c No
+passed c (Some i) = quiet (with_probe c (with_window c.probe (marked_sent c.probe.window i))) Yes
 
 unfoldable pub through_window : Core → ℕ → CanFrame → ℕ → Said
 through_window c bus frame clock =

@@ -1,6 +1,6 @@
 -- What functions of the code give: the verdict on a frame, and what it comes to. What allow says is Tx.antt; `decided_so` (proofs/Laws.antt)
 -- says that the verdict comes to that.
-use Rattle.std.specs.Prelude.{Bool, cond, ◌&&◌, ℕ, eqb}
+use Rattle.std.specs.Prelude.{Bool, cond, ◌&&◌, ℕ, Option, Some, None, eqb}
 use Rattle.frames.specs.declared.CanFrame.{CanFrame}
 use Rattle.frames.specs.declared.TxClass.{TxClass}
 use Rattle.frames.specs.declared.TxClass.TheVariants.{Platform, Command}
@@ -10,17 +10,15 @@ use Rattle.state.specs.declared.Answer.{Answer}
 use Rattle.state.specs.declared.Said.{Said}
 use Rattle.state.specs.Parts.{with_probe, with_window}
 use Rattle.state.specs.Replies.{quiet}
-use Rattle.probe_window.specs.declared.Unsent.{Unsent}
-use Rattle.probe_window.specs.declared.Unsent.TheVariants.{At, Nothing}
 use Rattle.policy.specs.Policy.{is_bus_read_only}
 use Rattle.probe_window.specs.Window.{is_open, unsent_in, marked_sent}
 use Rattle.can_tx.specs.Tx.{allows_command}
 use Rattle.can_tx.specs.declared.Verdict.{Verdict}
 use Rattle.can_tx.specs.declared.Verdict.TheVariants.{Passes, Marks, Denied, BadFrame}
 
-abbrev pub found_as : Unsent → Verdict
-found_as Nothing = Denied
-found_as (At i) = Marks i
+abbrev pub found_as : Option ℕ → Verdict
+found_as None = Denied
+found_as (Some i) = Marks i
 
 -- through the window
 unfoldable pub window_verdict : Core → ℕ → CanFrame → ℕ → Verdict

@@ -8,7 +8,6 @@ ghost use Rattle.can_tx.specs.Tx.{allow, allows_command};
 ghost use Rattle.can_tx.specs.Verdict.{found_as, window_verdict, platform_verdict, verdict, answer_by, core_by};
 
 use frames::{CanFrame, TxClass};
-use probe_window::Unsent;
 use state::{Answer, Core, Policy, Probe, Said};
 
 // What is decided of a frame. It is small, and the core is left alone but where an entry of the probe is marked: both calls that
@@ -23,12 +22,12 @@ pub enum Verdict {
 }
 
 // A frame that was found among the entries passes.
-fn found_as(found: Unsent) -> Verdict
+fn found_as(found: Option<usize>) -> Verdict
     ensures { result ≡ found_as found }
 {
     match found {
-        Unsent::Nothing => Verdict::Denied,
-        Unsent::At(i) => Verdict::Marks(i),
+        Some(i) => Verdict::Marks(i),
+        None => Verdict::Denied,
     }
 }
 
@@ -36,48 +35,37 @@ fn found_as(found: Unsent) -> Verdict
 fn reaches_window(p: Policy, b: Probe, bus: u8, frame: CanFrame, clock: u64) -> bool
     ensures { result ≡ (eqb frame.bus bus && eqb frame.dlc 8 && is_open p b bus clock) }
 {
-    if frame.bus == bus {
-        if frame.dlc == 8 {
-            return probe_window::is_open(p, b, bus, clock);
-        }
-    }
-    false
+    frame.bus == bus && frame.dlc == 8 && probe_window::is_open(p, b, bus, clock)
 }
 
 // Only an open window lets the frame through.
+#[tactic(auto, unfolding(crate::specs::Verdict::window_verdict))]
 fn through_window(core: Core, bus: u8, frame: CanFrame, clock: u64) -> Verdict
     ensures { result ≡ window_verdict core bus frame clock }
 {
-    let policy = core.policy;
-    let b = core.probe;
-    if reaches_window(policy, b, bus, frame, clock) {
-        let w = b.window;
-        let found = probe_window::unsent_in(w, frame);
-        return found_as(found);
+    if reaches_window(core.policy, core.probe, bus, frame, clock) {
+        found_as(probe_window::unsent_in(core.probe.window, frame))
+    } else {
+        Verdict::Denied
     }
-    Verdict::Denied
 }
 
+#[tactic(auto, unfolding(crate::specs::Verdict::platform_verdict))]
 fn allow_platform(core: Core, bus: u8, frame: CanFrame, clock: u64) -> Verdict
     ensures { result ≡ platform_verdict core bus frame clock }
 {
-    let policy = core.policy;
-    if policy::is_can_bus_read_only(policy, bus) {
-        return through_window(core, bus, frame, clock);
+    if policy::is_can_bus_read_only(core.policy, bus) {
+        through_window(core, bus, frame, clock)
+    } else {
+        Verdict::Passes
     }
-    Verdict::Passes
 }
 
+#[tactic(auto, unfolding(crate::specs::Tx::allows_command))]
 fn allows_command(policy: Policy, bus: u8, frame: CanFrame, validated: bool) -> bool
     ensures { result ≡ allows_command policy bus frame validated }
 {
-    if frame.bus == bus {
-        if policy::is_can_bus_read_only(policy, bus) {
-            return false;
-        }
-        return validated;
-    }
-    false
+    frame.bus == bus && !policy::is_can_bus_read_only(policy, bus) && validated
 }
 
 // `validated`: the phone that a command is for is; for a platform frame it is not looked at.
@@ -92,21 +80,14 @@ pub fn decide_can_tx(
 ) -> Verdict
     ensures { result ≡ verdict core bus frame class validated clock }
 {
-    let id = frame.id;
-    if frames::can_id_in_range(id) {
-        return match class {
-            TxClass::Platform => allow_platform(core, bus, frame, clock),
-            TxClass::Command => {
-                let policy = core.policy;
-                if allows_command(policy, bus, frame, validated) {
-                    Verdict::Passes
-                } else {
-                    Verdict::Denied
-                }
-            }
-        };
+    if !frames::can_id_in_range(frame.id) {
+        return Verdict::BadFrame;
     }
-    Verdict::BadFrame
+    match class {
+        TxClass::Platform => allow_platform(core, bus, frame, clock),
+        TxClass::Command if allows_command(core.policy, bus, frame, validated) => Verdict::Passes,
+        TxClass::Command => Verdict::Denied,
+    }
 }
 
 // ---- what a verdict says
@@ -115,8 +96,7 @@ fn answer_by(v: Verdict) -> Answer
     ensures { result ≡ answer_by v }
 {
     match v {
-        Verdict::Passes => Answer::Yes,
-        Verdict::Marks(_) => Answer::Yes,
+        Verdict::Passes | Verdict::Marks(_) => Answer::Yes,
         Verdict::Denied => Answer::No,
         Verdict::BadFrame => Answer::BadFrame,
     }
@@ -126,12 +106,7 @@ fn answer_by(v: Verdict) -> Answer
 pub fn is_yes(v: Verdict) -> bool
     ensures { result ≡ is_yes (values (answer_by v)) }
 {
-    match v {
-        Verdict::Passes => true,
-        Verdict::Marks(_) => true,
-        Verdict::Denied => false,
-        Verdict::BadFrame => false,
-    }
+    matches!(v, Verdict::Passes | Verdict::Marks(_))
 }
 
 // The entry through which a frame passed is marked sent.
@@ -139,19 +114,15 @@ pub fn core_by(core: Core, v: Verdict) -> Core
     ensures { result ≡ core_by core v }
 {
     match v {
-        Verdict::Passes => core,
         Verdict::Marks(i) => {
-            let b = core.probe;
-            let w = b.window;
-            let marked = probe_window::marked_sent(w, i);
-            let next = state::parts::with_window(b, marked);
-            state::parts::with_probe(core, next)
+            let marked = probe_window::marked_sent(core.probe.window, i);
+            state::parts::with_probe(core, state::parts::with_window(core.probe, marked))
         }
-        Verdict::Denied => core,
-        Verdict::BadFrame => core,
+        _ => core,
     }
 }
 
+#[tactic(auto, using(crate::proofs::Laws::decided_so))]
 pub fn allow_can_tx(
     core: Core,
     bus: u8,
@@ -163,6 +134,5 @@ pub fn allow_can_tx(
     ensures { result ≡ allow core bus frame class validated clock }
 {
     let v = decide_can_tx(core, bus, frame, class, validated, clock);
-    let next = core_by(core, v);
-    state::replies::quiet(next, answer_by(v))
+    state::replies::quiet(core_by(core, v), answer_by(v))
 }

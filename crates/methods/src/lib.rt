@@ -1,54 +1,39 @@
 // The host's notes on the methods, on a core in range (validation.rs).
 #![tactic(auto)]
 
-ghost use Rattle.std.specs.Prelude.{◌≡◌, ◌<◌, set};
+ghost use Rattle.std.specs.Prelude.{◌≡◌};
 ghost use Rattle.methods.specs.Notes.{is_place, note_available, note_continue};
 
 use state::{Answer, Core, Methods, Said};
 
 // A place of the methods, of which there are at most eight.
+#[tactic(auto, unfolding(crate::specs::Notes::is_place))]
 fn is_place(m: Methods, at: usize) -> bool
     ensures { result ≡ is_place m at }
 {
-    if at < 8 {
-        return at < m.count;
-    }
-    false
+    at < 8 && at < m.count
 }
 
-fn noted(notes: [bool; 8], at: usize, on: bool) -> [bool; 8]
-    requires { at < 8 }
-    ensures { result ≡ set notes at on }
-{
-    let mut n = notes;
-    n[at] = on;
-    n
-}
-
+#[tactic(auto, unfolding(crate::specs::Notes::note_available, crate::specs::Notes::is_place))]
 pub fn note_method_available(core: Core, at: usize, on: bool) -> Said
     ensures { result ≡ note_available core at on }
 {
     let mut m = core.methods;
     if is_place(m, at) {
-        let notes = m.available;
-        let more = noted(notes, at, on);
-        m.available = more;
-        let c = state::parts::with_methods(core, m);
-        return state::replies::quiet(c, Answer::Done);
+        m.available[at] = on;
+        return state::replies::quiet(state::parts::with_methods(core, m), Answer::Done);
     }
     state::replies::leave(core, Answer::Done)
 }
 
+#[tactic(auto, unfolding(crate::specs::Notes::note_continue, crate::specs::Notes::is_place))]
 pub fn note_method_can_continue(core: Core, at: usize, on: bool) -> Said
     ensures { result ≡ note_continue core at on }
 {
     let mut m = core.methods;
     if is_place(m, at) {
-        let notes = m.continues;
-        let more = noted(notes, at, on);
-        m.continues = more;
-        let c = state::parts::with_methods(core, m);
-        return state::replies::quiet(c, Answer::Done);
+        m.continues[at] = on;
+        return state::replies::quiet(state::parts::with_methods(core, m), Answer::Done);
     }
     state::replies::leave(core, Answer::Done)
 }

@@ -10,35 +10,28 @@ use state::{Access, Answer, Buses, Core, Identity, Policy, Probe, Said};
 pub fn with_identity(p: Policy, identity: Identity) -> Policy
     ensures { result ≡ with_identity p identity }
 {
-    let mut q = p;
-    q.identity = identity;
-    q
+    Policy { identity, ..p }
 }
 
 pub fn with_access(p: Policy, access: Access) -> Policy
     ensures { result ≡ with_access p access }
 {
-    let mut q = p;
-    q.access = access;
-    q
+    Policy { access, ..p }
 }
 
 pub fn with_buses(p: Policy, buses: Buses) -> Policy
     ensures { result ≡ with_buses p buses }
 {
-    let mut q = p;
-    q.buses = buses;
-    q
+    Policy { buses, ..p }
 }
 
 // The core with another policy, and the read-only signals.
+#[tactic(auto, unfolding(crate::specs::Changes::policy_changed))]
 pub fn policy_changed(core: Core, answer: Answer, policy: Policy) -> Said
     ensures { result ≡ Changes.policy_changed core answer policy }
 {
-    let value = policy::is_can_read_only(policy);
-    let signals = state::replies::read_only_changed(value);
-    let c = state::parts::with_policy(core, policy);
-    state::replies::reply(c, answer, signals)
+    let signals = state::replies::read_only_changed(policy::is_can_read_only(policy));
+    state::replies::reply(state::parts::with_policy(core, policy), answer, signals)
 }
 
 // note_relock: the count wraps.
@@ -46,8 +39,8 @@ pub fn policy_changed(core: Core, answer: Answer, policy: Policy) -> Said
 pub fn relocked(p: Probe) -> Probe
     ensures { result ≡ Changes.relocked p }
 {
-    let mut q = p;
-    let more = std::num::wrapping_add_u32(p.relocks, 1);
-    q.relocks = more;
-    q
+    Probe {
+        relocks: p.relocks.wrapping_add(1),
+        ..p
+    }
 }

@@ -1,5 +1,5 @@
 -- The receive marks and the probe window (can_probe.rs).
-use Rattle.std.specs.Prelude.{Bool, true, false, cond, not, ◌&&◌, List, [], ◌∷◌, ℕ, suc, ◌-◌, eqb, ltb, leb}
+use Rattle.std.specs.Prelude.{Bool, true, false, cond, not, ◌&&◌, List, [], ◌∷◌, ℕ, suc, ◌-◌, Option, Some, None, eqb, ltb, leb}
 use lib.ListN.{get_or, replicate, take, set}
 use Rattle.arrays.specs.Arrays.{padded}
 use Rattle.frames.specs.declared.Id.TheVariants.{Standard}
@@ -12,8 +12,6 @@ use Rattle.state.specs.declared.Probe.{Probe}
 use Rattle.state.specs.declared.Window.{Window}
 use Rattle.state.specs.Parts.{with_marks}
 use Rattle.policy.specs.Policy.{fingerprint_confirmed, is_bus_read_only}
-use Rattle.probe_window.specs.declared.Unsent.{Unsent}
-use Rattle.probe_window.specs.declared.Unsent.TheVariants.{At, Nothing}
 
 -- ---- receive marks
 
@@ -63,12 +61,12 @@ ids_in_range [] = true
 ids_in_range (f ∷ fs) = cond (can_id_in_range f.id) (ids_in_range fs) false
 
 -- the place of the first entry that is the frame and was not sent, counted from i
-unfoldable pub first_unsent : CanFrame → ℕ → List ProbeFrame → List Bool → Unsent
-first_unsent frame i [] sent = Nothing
-first_unsent frame i (f ∷ fs) [] = Nothing
-first_unsent frame i (f ∷ fs) (s ∷ ss) = cond (is_entry f frame && not s) (At i) (first_unsent frame (suc i) fs ss)
+unfoldable pub first_unsent : CanFrame → ℕ → List ProbeFrame → List Bool → Option ℕ
+first_unsent frame i [] sent = None
+first_unsent frame i (f ∷ fs) [] = None
+first_unsent frame i (f ∷ fs) (s ∷ ss) = cond (is_entry f frame && not s) (Some i) (first_unsent frame (suc i) fs ss)
 
-unfoldable pub unsent_in : Window → CanFrame → Unsent
+unfoldable pub unsent_in : Window → CanFrame → Option ℕ
 unsent_in w frame = first_unsent frame 0 (take w.count w.frames) w.sent
 
 -- no window

@@ -1,238 +1,158 @@
 // The receive marks and the probe window (can_probe.rs).
 #![tactic(auto)]
 
-ghost use Rattle.std.specs.Prelude.{◌≡◌, ◌&&◌, not, take, min};
+ghost use Rattle.std.specs.Prelude.{◌≡◌, take};
 ghost use Rattle.arrays.specs.Arrays.{padded};
-ghost use Rattle.frames.specs.Frames.{is_entry};
 ghost use Rattle.probe_window.specs.Window.{heard_at, ids_in_range, is_awake, is_bus_awake, is_listen_only, is_open, is_within_time, marked_sent, new_window, no_frame, no_window, probe_needed, unsent_in};
 
 use frames::{CanFrame, Id, ProbeFrame};
 use state::{Identity, Policy, Probe, Window};
 
-// The place of the first entry of a probe that is a given frame and was not sent yet.
-#[derive(Clone, Copy)]
-pub enum Unsent {
-    At(usize),
-    Nothing,
-}
-
 // Whether a bus with this mark heard a frame at most 1,000 ms ago; a mark later than now is none.
+#[tactic(auto, unfolding(crate::specs::Window::is_awake))]
 fn is_awake(heard: bool, mark: u64, clock: u64) -> bool
     ensures { result ≡ is_awake heard mark clock }
 {
-    if heard {
-        if mark <= clock {
-            return clock - mark <= 1_000;
-        }
-    }
-    false
+    heard && mark <= clock && clock - mark <= 1_000
 }
 
+#[tactic(auto, unfolding(crate::specs::Window::is_bus_awake, frames::specs::Frames::bus_exists))]
 pub fn is_bus_awake(heard: [bool; 4], marks: [u64; 4], bus: u8, clock: u64) -> bool
     ensures { result ≡ is_bus_awake heard marks bus clock }
 {
-    if frames::bus_exists(bus) {
-        let i = bus as usize;
-        let once = heard[i];
-        let mark = marks[i];
-        return is_awake(once, mark, clock);
-    }
-    false
+    let i = usize::from(bus);
+    frames::bus_exists(bus) && is_awake(heard[i], marks[i], clock)
 }
 
 // A frame is heard on a bus; one above 3 has no mark.
-pub fn heard_at(probe: Probe, bus: u8, clock: u64) -> Probe
+#[tactic(auto, unfolding(crate::specs::Window::heard_at))]
+pub fn heard_at(mut probe: Probe, bus: u8, clock: u64) -> Probe
     ensures { result ≡ heard_at probe bus clock }
 {
-    let mut b = probe;
     if bus < 4 {
-        let i = bus as usize;
-        b.heard[i] = true;
-        b.marks[i] = clock;
-        return b;
+        let i = usize::from(bus);
+        probe.heard[i] = true;
+        probe.marks[i] = clock;
     }
-    b
+    probe
 }
 
 // The platform is confirmed and the car is not.
+#[tactic(auto, unfolding(crate::specs::Window::probe_needed))]
 pub fn is_probe_needed(i: Identity) -> bool
     ensures { result ≡ probe_needed i }
 {
-    if i.confirmed {
-        return !policy::is_car_fingerprint_confirmed(i);
-    }
-    false
+    i.confirmed && !policy::is_car_fingerprint_confirmed(i)
 }
 
 // Less than 6,000 ms since the opening; an earlier clock counts as no time.
+#[tactic(auto, unfolding(crate::specs::Window::is_within_time))]
 pub fn is_within_time(opened: u64, clock: u64) -> bool
     ensures { result ≡ is_within_time opened clock }
 {
-    if clock < opened {
-        return true;
-    }
-    clock - opened < 6_000
+    clock.saturating_sub(opened) < 6_000
 }
 
 // with_open_window.
+#[tactic(auto, unfolding(crate::specs::Window::is_open))]
 pub fn is_open(p: Policy, b: Probe, bus: u8, clock: u64) -> bool
     ensures { result ≡ is_open p b bus clock }
 {
-    let w = b.window;
-    let identity = p.identity;
-    if w.present {
-        if is_probe_needed(identity) {
-            if p.buses.logging {
-                return false;
-            }
-            if w.bus == bus {
-                if is_within_time(w.opened, clock) {
-                    return w.relocks == b.relocks;
-                }
-            }
-        }
-    }
-    false
+    b.window.present
+        && is_probe_needed(p.identity)
+        && !p.buses.logging
+        && b.window.bus == bus
+        && is_within_time(b.window.opened, clock)
+        && b.window.relocks == b.relocks
 }
 
+#[tactic(auto, unfolding(crate::specs::Window::is_listen_only))]
 pub fn is_can_bus_listen_only(p: Policy, b: Probe, bus: u8, clock: u64) -> bool
     ensures { result ≡ is_listen_only p b bus clock }
 {
-    if policy::is_can_bus_read_only(p, bus) {
-        return !is_open(p, b, bus, clock);
-    }
-    false
+    policy::is_can_bus_read_only(p, bus) && !is_open(p, b, bus, clock)
 }
 
 pub fn no_frame() -> ProbeFrame
     ensures { result ≡ no_frame }
 {
-    let data = [0u8; 8];
     ProbeFrame {
         id: Id::Standard(0),
-        data,
+        data: [0; 8],
     }
 }
 
 // Whether the id of each of the first `count` frames fits its width.
+#[tactic(auto, unfolding(crate::specs::Window::ids_in_range))]
 pub fn ids_in_range(frames: [ProbeFrame; 4], count: usize) -> bool
     ensures { result ≡ ids_in_range (take count frames) }
 {
-    let mut i = 0;
-    while i < 4 {
-        if count <= i {
-            return true;
-        }
-        let f = frames[i];
-        let id = f.id;
-        if frames::can_id_in_range(id) {
-            i += 1;
-        } else {
-            return false;
-        }
-    }
-    true
+    frames
+        .iter()
+        .take(count)
+        .all(|f| frames::can_id_in_range(f.id))
 }
 
-// Whether an entry is the frame and was not sent.
-fn is_unsent(entry: ProbeFrame, sent: bool, frame: CanFrame) -> bool
-    ensures { result ≡ (is_entry entry frame && not sent) }
-{
-    if frames::is_entry(entry, frame) {
-        return !sent;
-    }
-    false
-}
-
-pub fn unsent_in(w: Window, frame: CanFrame) -> Unsent
+// The place of the first entry of a window that is this frame and was not sent yet.
+#[tactic(auto, unfolding(crate::specs::Window::unsent_in))]
+pub fn unsent_in(w: Window, frame: CanFrame) -> Option<usize>
     ensures { result ≡ unsent_in w frame }
 {
-    let frames = w.frames;
-    let marks = w.sent;
-    let n = w.count;
-    let mut i = 0;
-    while i < 4 {
-        if n <= i {
-            return Unsent::Nothing;
-        }
-        let entry = frames[i];
-        let sent = marks[i];
-        if is_unsent(entry, sent, frame) {
-            return Unsent::At(i);
-        }
-        i += 1;
-    }
-    Unsent::Nothing
+    w.frames
+        .iter()
+        .take(w.count)
+        .zip(&w.sent)
+        .position(|(entry, sent)| frames::is_entry(*entry, frame) && !*sent)
 }
 
 pub fn no_window() -> Window
     ensures { result ≡ no_window }
 {
-    let none = no_frame();
-    let frames = [none; 4];
-    let sent = [false; 4];
     Window {
         present: false,
         bus: 0,
-        frames,
+        frames: [no_frame(); 4],
         count: 0,
         opened: 0,
         relocks: 0,
-        sent,
+        sent: [false; 4],
     }
 }
 
 // The first `count` frames, then empty ones.
+#[tactic(auto, unfolding(arrays::specs::Arrays::padded))]
 fn first_frames(lent: [ProbeFrame; 4], count: usize) -> [ProbeFrame; 4]
     ensures { result ≡ padded 4 no_frame (take count lent) }
 {
-    let none = no_frame();
-    let mut out = [none; 4];
-    let mut i = 0;
-    while i < 4 {
-        if count <= i {
-            return out;
-        }
-        let f = lent[i];
-        out[i] = f;
-        i += 1;
-    }
-    out
-}
-
-// A number of frames, at most 4.
-fn clamp(n: usize) -> usize
-    ensures { result ≡ min n 4 }
-{
-    if n < 4 { n } else { 4 }
+    let used = count.min(4);
+    let mut frames = [no_frame(); 4];
+    frames[..used].copy_from_slice(&lent[..used]);
+    frames
 }
 
 // A window for the first `count` frames, none of them marked.
+#[tactic(auto, unfolding(crate::specs::Window::new_window))]
 pub fn new_window(bus: u8, lent: [ProbeFrame; 4], count: usize, clock: u64, relocks: u32) -> Window
     ensures { result ≡ new_window bus (take count lent) clock relocks }
 {
-    let frames = first_frames(lent, count);
-    let used = clamp(count);
-    let sent = [false; 4];
     Window {
         present: true,
         bus,
-        frames,
-        count: used,
+        frames: first_frames(lent, count),
+        count: count.min(4),
         opened: clock,
         relocks,
-        sent,
+        sent: [false; 4],
     }
 }
 
 // The window with the frame at a place marked; past the last place nothing changes.
-pub fn marked_sent(w: Window, i: usize) -> Window
+#[tactic(auto, unfolding(crate::specs::Window::marked_sent))]
+pub fn marked_sent(mut w: Window, i: usize) -> Window
     ensures { result ≡ marked_sent w i }
 {
-    let mut v = w;
     if i < 4 {
-        v.sent[i] = true;
-        return v;
+        w.sent[i] = true;
     }
-    v
+    w
 }

@@ -1,5 +1,5 @@
 -- What a session shows, and its ends (validation.rs).
-use Rattle.std.specs.Prelude.{Bool, false, cond, not, ◌&&◌, ◌||◌, List, [], ◌∷◌, ℕ, suc, ltb, get_or, take}
+use Rattle.std.specs.Prelude.{Bool, false, cond, not, ◌&&◌, ◌||◌, List, [], ◌∷◌, ℕ, suc, Option, Some, None, ltb, get_or, take}
 use Rattle.arrays.specs.Arrays.{same_bytes}
 use Rattle.session_times.specs.Times.{seconds_to}
 use Rattle.phones.specs.Phones.{id_bytes}
@@ -12,8 +12,6 @@ use Rattle.state.specs.declared.SessionReply.{SessionReply}
 use Rattle.state.specs.declared.Core.{Core}
 use Rattle.state.specs.Running.{is_code, is_running, method_at, in_progress}
 use Rattle.policy.specs.Policy.{is_read_only, is_identified}
-use Rattle.session.specs.declared.Lapse.{Lapse}
-use Rattle.session.specs.declared.Lapse.TheVariants.{Stays, Ends}
 
 -- ---- what a session shows
 
@@ -69,13 +67,13 @@ cannot_go_on c s =
     || lost_read_write c (method_at c.methods s.method)
     || not (note_at c.methods.continues s.method)
 
--- what a tick does to the session: nothing, or it ends it
-unfoldable pub lapse_of : Core → ℕ → Lapse
+-- the status with which a tick ends the session, if it does
+unfoldable pub lapse_of : Core → ℕ → Option Status
 lapse_of c clock =
     cond (in_progress c.validation.session)
-    (cond (cannot_go_on c c.validation.session) (Ends Cancelled)
-    (cond (ltb clock c.validation.session.deadline) Stays (Ends TimedOut)))
-    Stays
+    (cond (cannot_go_on c c.validation.session) (Some Cancelled)
+    (cond (ltb clock c.validation.session.deadline) None (Some TimedOut)))
+    None
 
 -- ---- methods
 

@@ -9,28 +9,15 @@ ghost use Rattle.start_checks.specs.Way.{way_as, taken};
 
 use state::{Answer, Core, Kind, Mark, Session};
 
-// What a start comes to: it is refused, or a session begins whose digits come from the mark.
-#[derive(Clone, Copy)]
-pub enum Way {
-    Refused(Answer),
-    Begins(Mark),
-}
-
-// Only code entry draws.
-fn way_as(lent: bool, gives: bool, kind: Kind) -> Way
+// The mark of the digits with which a session begins, or the refusal: only code entry draws.
+fn way_as(lent: bool, gives: bool, kind: Kind) -> Result<Mark, Answer>
     ensures { result ≡ way_as lent gives kind }
 {
     match kind {
-        Kind::InCarAction => Way::Begins(Mark::Blank),
-        Kind::CodeEntry => {
-            if lent {
-                if gives {
-                    return Way::Begins(Mark::Fresh);
-                }
-                return Way::Refused(Answer::RandomSpent);
-            }
-            Way::Refused(Answer::NoRandomSource)
-        }
+        Kind::InCarAction => Ok(Mark::Blank),
+        Kind::CodeEntry if !lent => Err(Answer::NoRandomSource),
+        Kind::CodeEntry if !gives => Err(Answer::RandomSpent),
+        Kind::CodeEntry => Ok(Mark::Fresh),
     }
 }
 
@@ -38,42 +25,41 @@ fn way_as(lent: bool, gives: bool, kind: Kind) -> Way
 fn runs_for_other(s: Session, phone: &[u8]) -> bool
     ensures { result ≡ (in_progress s && not (is_of s phone.now)) }
 {
-    if state::running::in_progress(s) {
-        return !session::is_of(s, phone);
-    }
-    false
+    state::running::in_progress(s) && !session::is_of(s, phone)
 }
 
-// Decided before anything large is copied.
-pub fn way_at(core: Core, phone: &[u8], at: usize, clock: u64, lent: bool, gives: bool) -> Way
+// Decided before anything large is copied: the mark of the digits with which a session begins, or the refusal.
+#[tactic(auto, using(crate::proofs::Laws::taken_as), unfolding(validation::specs::Calls::start_at, validation::specs::Calls::start_checks, state::specs::Checks::checked))]
+pub fn way_at(
+    core: Core,
+    phone: &[u8],
+    at: usize,
+    clock: u64,
+    lent: bool,
+    gives: bool,
+) -> Result<Mark, Answer>
     requires { length phone.now ≤ 32 }
     ensures { taken core phone.now at clock result ≡ start_at core phone.now at clock lent gives }
 {
-    let methods = core.methods;
-    if methods.count <= at {
-        return Way::Refused(Answer::UnknownMethod);
+    if core.methods.count <= at {
+        return Err(Answer::UnknownMethod);
     }
-    let identity = core.policy.identity;
-    if policy::is_car_fingerprint_confirmed(identity) {
-        let until = core.validation.cooldown_until;
-        if clock < until {
-            let left = session_times::seconds_to(until, clock);
-            return Way::Refused(Answer::CoolingDown(left));
-        }
-        let s = core.validation.session;
-        if runs_for_other(s, phone) {
-            return Way::Refused(Answer::OtherPhoneSession);
-        }
-        let method = state::running::method_at(methods, at);
-        if session::lost_read_write(core, method) {
-            return Way::Refused(Answer::MethodUnavailable);
-        }
-        let notes = methods.available;
-        if session::note_at(notes, at) {
-            let kind = method.kind;
-            return way_as(lent, gives, kind);
-        }
-        return Way::Refused(Answer::MethodNotAvailableNow);
+    if !policy::is_car_fingerprint_confirmed(core.policy.identity) {
+        return Err(Answer::CarNotIdentified);
     }
-    Way::Refused(Answer::CarNotIdentified)
+    let until = core.validation.cooldown_until;
+    if clock < until {
+        return Err(Answer::CoolingDown(session_times::seconds_to(until, clock)));
+    }
+    if runs_for_other(core.validation.session, phone) {
+        return Err(Answer::OtherPhoneSession);
+    }
+    let method = state::running::method_at(core.methods, at);
+    if session::lost_read_write(core, method) {
+        return Err(Answer::MethodUnavailable);
+    }
+    if !session::note_at(core.methods.available, at) {
+        return Err(Answer::MethodNotAvailableNow);
+    }
+    way_as(lent, gives, method.kind)
 }

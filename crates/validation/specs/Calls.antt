@@ -1,7 +1,7 @@
 -- The calls of a validation session (validation.rs). None is given the digits: start is told whether random bytes were
 -- lent and whether the draw gives a code, submit whether the typed bytes are text and right. None is given the lists: submit and
 -- complete are told whether this car's list is full without the session's phone.
-use Rattle.std.specs.Prelude.{Bool, true, false, cond, not, ◌&&◌, List, [], ◌∷◌, ℕ, ◌-◌, eqb, ltb, leb, length, replicate}
+use Rattle.std.specs.Prelude.{Bool, true, false, cond, not, ◌&&◌, List, [], ◌∷◌, ℕ, ◌-◌, Option, Some, None, eqb, ltb, leb, length, replicate}
 use Rattle.phones.specs.Phones.{id_of}
 use Rattle.state.specs.declared.Kind.{Kind}
 use Rattle.state.specs.declared.Kind.TheVariants.{CodeEntry, InCarAction}
@@ -22,8 +22,6 @@ use Rattle.state.specs.Running.{is_code, method_at, in_progress}
 use Rattle.state.specs.Replies.{no_challenge, challenge_changed, leave, notified, finish}
 use Rattle.state.specs.Checks.{Check, ◌refuses◌, checked, unmet}
 use Rattle.policy.specs.Policy.{fingerprint_confirmed}
-use Rattle.session.specs.declared.Lapse.{Lapse}
-use Rattle.session.specs.declared.Lapse.TheVariants.{Stays, Ends}
 use Rattle.session_times.specs.Times.{saturating_add, seconds_to, next_number}
 use Rattle.session.specs.Session.{reply_of, ended_as, is_of, lost_read_write, note_at, lapse_of, place_of}
 
@@ -107,9 +105,9 @@ session_is c s = with_validation c (with_session c.validation s)
 unfoldable pub end_session : Core → Answer → Status → ℕ → Said
 end_session c a status clock = finish (session_is c (ended_as c.validation.session status clock)) a (challenge_changed no_challenge)
 
-abbrev pub ticked_as : Core → ℕ → Lapse → Said
-ticked_as c clock Stays = leave c Done
-ticked_as c clock (Ends status) = end_session c Done status clock
+abbrev pub ticked_as : Core → ℕ → Option Status → Said
+ticked_as c clock None = leave c Done
+ticked_as c clock (Some status) = end_session c Done status clock
 
 -- tick_validation
 unfoldable pub tick : Core → ℕ → Said
@@ -122,9 +120,9 @@ abbrev pub unvalidated : Said → Ended
 unvalidated o = record { said = o; validates = false }
 
 -- a call that ticks first: where the tick ends the session it answers a, and else goes on
-abbrev pub ticking : Core → ℕ → Answer → Ended → Lapse → Ended
-ticking c clock a o Stays = o
-ticking c clock a o (Ends status) = unvalidated (end_session c a status clock)
+abbrev pub ticking : Core → ℕ → Answer → Ended → Option Status → Ended
+ticking c clock a o None = o
+ticking c clock a o (Some status) = unvalidated (end_session c a status clock)
 
 -- the session runs and is this phone's
 unfoldable pub runs_for : Session → List ℕ → Bool
