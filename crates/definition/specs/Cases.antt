@@ -1,13 +1,12 @@
 -- The cases P1 to P13 of document 01, in its order and words, and behind them those of W-207; P5, P7, P9 and P12 as W-202, W-206, W-201 and W-207 of document 02 have
 -- them: what the gate gives, beside what they say. proofs/Table.antt proves them.
-use Rattle.std.specs.Prelude.{◌≡◌, Bool, true, false, List, [], ◌∷◌, ◌++◌, map, ℕ, length, replicate}
+use Rattle.std.specs.Prelude.{◌≡◌, Bool, true, false, List, [], ◌∷◌, ◌++◌, map, ℕ, Option, Some, length, replicate}
 use Prim.Native.String.{String}
 use Rattle.arrays.specs.Arrays.{padded}
 use Rattle.phones.specs.Phones.{id_of}
 use Rattle.frames.specs.declared.Id.TheVariants.{Standard}
 use Rattle.frames.specs.declared.ProbeFrame.{ProbeFrame}
 use Rattle.frames.specs.declared.TxClass.TheVariants.{Platform}
-use Rattle.draw.specs.declared.Drawn.{Drawn}
 use Rattle.draw.specs.Draw.{drawn}
 use Rattle.saved_record.specs.SavedRecord.{record_of}
 use Rattle.ascii.specs.Ascii.{ascii}
@@ -31,7 +30,7 @@ use Rattle.definition.specs.Gate.{Call, PackedReply, new_gate_call, start_valida
 -- ---- a row: what is looked at, and what 01 says of it
 
 pub data Observed : Type 0 where
-  draw : Drawn → Observed  -- what random bytes draw: whether there is a code, and its nine places
+  draw : Option (List ℕ) → Observed  -- what random bytes draw: the nine places of a code, or none
   code : List ℕ → Observed  -- the nine places of the gate's code
   answer : Numbered → Observed  -- a call's answer
   truth : Bool → Observed  -- a definition that is no call: a bus is awake, a window is open
@@ -117,7 +116,7 @@ start clock = start_with (0xD2 ∷ 0x04 ∷ 0x00 ∷ 0x00 ∷ []) clock
 -- random bytes draw a code: the draw gives it, and after a start that is lent them it is the gate's
 abbrev pub draws : List ℕ → String → List Row
 draws random digits =
-    (draw (drawn random settings.digits) gives draw (record { ok = true; code = nine digits })) ∷
+    (draw (drawn random settings.digits) gives draw (Some (nine digits))) ∷
     (code (after_all known_car (start_with random 1_000 ∷ [])).code gives code (nine digits)) ∷ []
 
 -- P1 D2 04 00 00 draws 1234. P2 FF FF FF FF 07 00 00 00 draws 0007. P3 7F E3 FF FF draws 9999. P4 80 E3 FF FF alone gives 19.

@@ -1,5 +1,5 @@
 -- The gate: what each call says, and the one definition of what it gives, `step`.
-use Rattle.std.specs.Prelude.{◌≡◌, Bool, true, false, cond, List, [], ◌∷◌, ℕ, ltb, length}
+use Rattle.std.specs.Prelude.{◌≡◌, Bool, true, false, cond, List, [], ◌∷◌, ℕ, is_some, unwrap_or, ltb, length}
 use Rattle.phones.specs.declared.PhoneList.{PhoneList}
 use Rattle.phones.specs.Ids.{Left, stays, becomes, afterwards}
 use Rattle.phones.specs.Phones.{id_bytes, list_of}
@@ -260,7 +260,7 @@ says v (new_gate_call settings methods count) =
     }
 says v (start_validation phone method clock random) =
     let d = drawn random v.core.settings.digits in
-    served v (of_core v d.code (Validation.start v.core phone method clock (is_lent random) d.ok))
+    served v (of_core v (unwrap_or d no_code) (Validation.start v.core phone method clock (is_lent random) (is_some d)))
 says v (submit_validation_code phone typed clock) =
     let is_right = right v.code v.core.settings.digits typed in
     served v (of_session v (Validation.submit v.core phone clock (is_text typed) is_right (full_for v)))

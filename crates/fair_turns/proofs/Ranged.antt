@@ -26,8 +26,7 @@ use Rattle.state.specs.Answers.{values, is_yes}
 use Rattle.state.specs.Replies.{leave, quiet}
 use Rattle.state.specs.View.{view, lists_in}
 use Rattle.range.specs.Range.{window_fits, core_fits, in_range}
-use Rattle.probe_window.specs.declared.Unsent.{Unsent}
-use Rattle.probe_window.specs.declared.Unsent.TheVariants.{At, Nothing}
+use Rattle.std.specs.Prelude.{Option, Some, None}
 use Rattle.probe_window.specs.Window.{marked_sent}
 use Rattle.phone_trust.specs.Trust.{is_paired, is_validated}
 use Rattle.can_tx.specs.Tx as Tx
@@ -51,10 +50,10 @@ keeps_leave : (c : Core) (a : Answer) → Keeps c (leave c a)
 unfolding leave
 keeps_leave c a = record { window = refl }
 
-keeps_passed : (c : Core) (u : Unsent) → Keeps c (Tx.passed c u)
+keeps_passed : (c : Core) (u : Option ℕ) → Keeps c (Tx.passed c u)
 unfolding quiet marked_sent window_fits
-keeps_passed c Nothing = keeps_leave c No
-keeps_passed c (At i) = record { window = refl }
+keeps_passed c None = keeps_leave c No
+keeps_passed c (Some i) = record { window = refl }
 
 keeps_class : (c : Core) (bus : ℕ) (frame : CanFrame) (validated : Bool) (clock : ℕ) (class : TxClass) → Keeps c (Tx.allow_class c bus frame validated clock class)
 unfolding Tx.allow_platform Tx.through_window

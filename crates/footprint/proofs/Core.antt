@@ -20,8 +20,7 @@ use Rattle.policy_changes.specs.Changes as Changes
 use Rattle.car_identity.specs.CarIdentity as CarIdentity
 use Rattle.can.specs.Can as Can
 use Rattle.pairing.specs.Pairing as Pairing
-use Rattle.probe_window.specs.declared.Unsent.{Unsent}
-use Rattle.probe_window.specs.declared.Unsent.TheVariants.{At, Nothing}
+use Rattle.std.specs.Prelude.{Option, Some, None}
 use Rattle.can_probe.specs.Calls as Probe
 use Rattle.can_tx.specs.Tx as Tx
 use Rattle.methods.specs.Notes as Methods
@@ -32,10 +31,10 @@ use Rattle.footprint.proofs.Keeps.{Keeps, keeping}
 
 -- ---- every call on the core
 
-keeps_passed : (c : Core) (u : Unsent) → Keeps (in_core probe ∷ []) c (Tx.passed c u)
+keeps_passed : (c : Core) (u : Option ℕ) → Keeps (in_core probe ∷ []) c (Tx.passed c u)
 unfolding some_of
-keeps_passed c Nothing = search keeping
-keeps_passed c (At i) = search keeping
+keeps_passed c None = search keeping
+keeps_passed c (Some i) = search keeping
 
 keeps_class : (c : Core) (bus : ℕ) (frame : CanFrame) (validated : Bool) (clock : ℕ) (class : TxClass)
     → Keeps (in_core probe ∷ []) c (Tx.allow_class c bus frame validated clock class)

@@ -15,8 +15,7 @@ use Rattle.state.specs.declared.Ended.{Ended}
 use Rattle.state.specs.Parts.{with_validation}
 use Rattle.state.specs.Replies.{notified}
 use Rattle.state.specs.Checks.{checked}
-use Rattle.session.specs.declared.Lapse.{Lapse}
-use Rattle.session.specs.declared.Lapse.TheVariants.{Stays, Ends}
+use Rattle.std.specs.Prelude.{Option, Some, None}
 use Rattle.session.specs.Session.{lapse_of}
 use Rattle.validation.specs.Calls.{begin, start_as, start_at, start, end_session, ticked_as, tick, ticking, succeeded_core, succeed, failed_core, tried_core, wrong, right_code, judge, judge_as, submitted, submit, cancel, completed, complete}
 use Rattle.definition.specs.Gate as Gate
@@ -51,18 +50,18 @@ module _ (ps : List Part) (v : is_in validation ps ≡ true) (d : is_in code ps 
   unfolding end_session
   keeps_end c a status clock = search staying
 
-  keeps_ticked : (c : Core) (clock : ℕ) (l : Lapse) → Keeps ps c (ticked_as c clock l)
-  keeps_ticked c clock Stays = search staying
-  keeps_ticked c clock (Ends status) = search keeps_end
+  keeps_ticked : (c : Core) (clock : ℕ) (l : Option Status) → Keeps ps c (ticked_as c clock l)
+  keeps_ticked c clock None = search staying
+  keeps_ticked c clock (Some status) = search keeps_end
 
   -- ---- calls by which a session may succeed
 
   ended_cond : (c : Core) (b : Bool) (e e' : Ended) → KeepsEnded ps c e → KeepsEnded ps c e' → KeepsEnded ps c (cond b e e')
   ended_cond c b e e' h k = either (λ x. KeepsEnded ps c x) b e e' h k
 
-  ended_ticking : (c : Core) (clock : ℕ) (a : Answer) (e : Ended) (l : Lapse) → KeepsEnded ps c e → KeepsEnded ps c (ticking c clock a e l)
-  ended_ticking c clock a e Stays h = h
-  ended_ticking c clock a e (Ends status) h = search keeps_end
+  ended_ticking : (c : Core) (clock : ℕ) (a : Answer) (e : Ended) (l : Option Status) → KeepsEnded ps c e → KeepsEnded ps c (ticking c clock a e l)
+  ended_ticking c clock a e None h = h
+  ended_ticking c clock a e (Some status) h = search keeps_end
 
   ended_judge : (c : Core) (clock : ℕ) (right full : Bool) (k : Kind) → KeepsEnded ps c (judge_as c clock right full k)
   unfolding judge right_code succeed succeeded_core wrong failed_core tried_core notified

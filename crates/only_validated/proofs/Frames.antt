@@ -23,8 +23,7 @@ use Rattle.state.specs.View.{View, lists_in, view, car_in_range, store_in_range}
 use Rattle.range.specs.Range.{in_range}
 use Rattle.policy.specs.Policy.{fingerprint_confirmed, is_bus_read_only}
 use Rattle.phone_trust.specs.Trust.{validated_now, is_validated}
-use Rattle.probe_window.specs.declared.Unsent.{Unsent}
-use Rattle.probe_window.specs.declared.Unsent.TheVariants.{At, Nothing}
+use Rattle.std.specs.Prelude.{Option, Some, None}
 use Rattle.probe_window.specs.Window.{is_open, unsent_in}
 use Rattle.can_tx.specs.Tx.{passed, through_window, allow_platform, allows_command, allow}
 use Rattle.answers.specs.Query.{plain}
@@ -107,10 +106,10 @@ module _ (g : Gate) (bus : ℕ) (frame : CanFrame) (owner : List ℕ) (clock : �
   abbrev in_the_window : Bool
   in_the_window = eqb frame.bus bus && eqb frame.dlc 8 && is_open g.core.policy g.core.probe bus clock
 
-  window_needs : (u : Unsent) → unsent_in g.core.probe.window frame ≡ u → in_the_window ≡ true → (passed g.core u).answer ≡ Yes → MaySend g bus frame clock
+  window_needs : (u : Option ℕ) → unsent_in g.core.probe.window frame ≡ u → in_the_window ≡ true → (passed g.core u).answer ≡ Yes → MaySend g bus frame clock
   unfolding leave
-  window_needs (At i) u p e = let q = simp and-eq-true_iff at p in in_window i (eqb-true frame.bus bus q.0.0) (eqb-true frame.dlc 8 q.0.1) q.1 u
-  window_needs Nothing u p e = untrue cc
+  window_needs (Some i) u p e = let q = simp and-eq-true_iff at p in in_window i (eqb-true frame.bus bus q.0.0) (eqb-true frame.dlc 8 q.0.1) q.1 u
+  window_needs None u p e = untrue cc
 
   platform_needs : Allowed g bus frame Platform owner clock → Sound g frame × MaySend g bus frame clock
   unfolding step gives says served said view allow checked leave allow_platform through_window
@@ -124,7 +123,7 @@ module _ (g : Gate) (bus : ℕ) (frame : CanFrame) (owner : List ℕ) (clock : �
   unfolding step gives says served said saying view allow checked leave quiet allow_platform through_window
   needs_platform (s, read_write r) = rw (s.0, s.1, r)
   needs_platform (s, in_window i b d w u) =
-      let yes = cases (λ (o : Said). o.answer ≡ Yes) (is_bus_read_only g.core.policy bus) (passed g.core (At i)) (leave g.core Yes) (λ e. refl) (λ e. refl) in
+      let yes = cases (λ (o : Said). o.answer ≡ Yes) (is_bus_read_only g.core.policy bus) (passed g.core (Some i)) (leave g.core Yes) (λ e. refl) (λ e. refl) in
       rw (s.0, s.1, eq-eqb _ _ b, eq-eqb _ _ d, w, u, yes)
 
   pub platform : Allowed g bus frame Platform owner clock ↔ Sound g frame × MaySend g bus frame clock

@@ -29,7 +29,8 @@ use Rattle.pairing.specs.Pairing as Pairing
 use Rattle.validations.specs.Store.{storing}
 use Rattle.validations.specs.Store as Validations
 use Rattle.validations.proofs.Laid.{store_after}
-use Rattle.session.specs.declared.Lapse.{Lapse}
+use Rattle.std.specs.Prelude.{Option}
+use Rattle.state.specs.declared.Status.{Status}
 use Rattle.session.specs.Session.{ended_as, is_of, cannot_go_on, lapse_of}
 use Rattle.validation.specs.Calls as Validation
 use Rattle.definition.specs.Gate.{SessionCall, ListCall, Call, Says, full_for, saying, validates, served, queueing, ended, listing, says, left, gives, step, after}
@@ -67,7 +68,7 @@ module _ (P : List ℕ → List ℕ → Type 0) where
   unfolding lapse_of
   only_ticking c clock a e k =
       let s = c.validation.session in
-      let Q : Lapse → Type 0 = λ l. Only P (Validation.ticking c clock a e l) in
+      let Q : Option Status → Type 0 = λ l. Only P (Validation.ticking c clock a e l) in
       cases Q (in_progress s) _ _
       (λ x. cases Q (cannot_go_on c s) _ _
       (λ y. only_not _)

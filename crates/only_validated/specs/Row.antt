@@ -1,6 +1,6 @@
 -- The row of the price list: a pack's limits "cannot be changed by a phone that was not validated on that bike". `OnlyValidated`, at the
 -- end, is the whole claim. A bike is the digest of the car that the gate has identified, a phone the bytes of its id.
-use Rattle.std.specs.Prelude.{ℕ, ◌<◌, ◌≡◌, Bool, true, false, ◌&&◌, List, [], ◌∷◌, ◌↔◌, ◌≢◌, get_or}
+use Rattle.std.specs.Prelude.{ℕ, ◌<◌, ◌≡◌, Bool, true, false, ◌&&◌, List, [], ◌∷◌, Some, ◌↔◌, ◌≢◌, get_or}
 use Rattle.arrays.specs.Arrays.{same_bytes}
 use Rattle.phones.specs.Ids.{some_of, contains}
 use Rattle.phones.specs.Phones.{id_bytes}
@@ -24,7 +24,6 @@ use Rattle.state.specs.View.{lists_in, view}
 use Rattle.range.specs.Range.{in_range}
 use Rattle.policy.specs.Policy.{fingerprint_confirmed, is_identified, is_bus_read_only}
 use Rattle.phone_trust.specs.Trust.{is_paired}
-use Rattle.probe_window.specs.declared.Unsent.TheVariants.{At}
 use Rattle.probe_window.specs.Window.{is_open, unsent_in}
 use Rattle.can_turns.specs.Turns.{no_decision}
 use Rattle.answers.specs.Query.{plain}
@@ -87,7 +86,7 @@ pub record MayCommand (g : Gate) (bus : ℕ) (frame : CanFrame) (owner : List �
 pub data MaySend (g : Gate) (bus : ℕ) (frame : CanFrame) (clock : ℕ) : Type 0 where
   read_write : is_bus_read_only g.core.policy bus ≡ false → MaySend g bus frame clock
   in_window : (place : ℕ) → frame.bus ≡ bus → frame.dlc ≡ 8 → is_open g.core.policy g.core.probe bus clock ≡ true
-      → unsent_in g.core.probe.window frame ≡ At place → MaySend g bus frame clock
+      → unsent_in g.core.probe.window frame ≡ Some place → MaySend g bus frame clock
 
 -- ---- how a phone comes to be listed
 

@@ -47,14 +47,11 @@ use Rattle.pairing.specs.Pairing as Pairing
 use Rattle.validations.specs.Store.{record_for, phones_for, storing, forgetting, pruning, restoring, of_car, validating}
 use Rattle.validations.specs.Store as Store
 use Rattle.save.specs.Save.{no_save, opening, rest, behind, refused, taking}
-use Rattle.probe_window.specs.declared.Unsent.{Unsent}
-use Rattle.probe_window.specs.declared.Unsent.TheVariants.{At, Nothing}
+use Rattle.std.specs.Prelude.{Option, Some, None}
 use Rattle.probe_window.specs.Window.{marked_sent, heard_at}
 use Rattle.can_probe.specs.Calls as Probe
 use Rattle.can_tx.specs.Tx as Tx
 use Rattle.methods.specs.Notes as Methods
-use Rattle.session.specs.declared.Lapse.{Lapse}
-use Rattle.session.specs.declared.Lapse.TheVariants.{Stays, Ends}
 use Rattle.session.specs.Session.{ended_as, cannot_go_on, lapse_of, place_of}
 use Rattle.validation.specs.Calls as Validation
 use Rattle.definition.specs.Gate.{SessionCall, ListCall, SaveCall, CoreCall, on_core, saying, of_session, of_lists, of_save, ended, listing, saving, said, left}
@@ -200,7 +197,7 @@ module _ (c : Core) (h : Fitting c) where
   fit_end a status clock = search
 
   -- a tick leaves the session, or ends it
-  by_lapse : (P : Lapse → Type 0) (clock : ℕ) → P Stays → ((status : Status) → P (Ends status)) → P (lapse_of c clock)
+  by_lapse : (P : Option Status → Type 0) (clock : ℕ) → P None → ((status : Status) → P (Some status)) → P (lapse_of c clock)
   unfolding lapse_of
   by_lapse P clock s e =
       let x = c.validation.session in
@@ -210,7 +207,7 @@ module _ (c : Core) (h : Fitting c) where
 
   fit_tick : (clock : ℕ) → Holds SaidFits (Validation.tick c clock)
   unfolding Validation.tick leave
-  fit_tick clock = by_lapse (λ (l : Lapse). Holds SaidFits (Validation.ticked_as c clock l)) clock (search) (λ status. fit_end _ status clock)
+  fit_tick clock = by_lapse (λ (l : Option Status). Holds SaidFits (Validation.ticked_as c clock l)) clock (search) (λ status. fit_end _ status clock)
 
   fit_wrong : (clock : ℕ) → Holds SaidFits (Validation.wrong c clock)
   unfolding Validation.wrong Validation.tried_core Validation.failed_core Validation.refilled notified reply finish ended_as session_fits tries_fit
@@ -223,7 +220,7 @@ module _ (g : Gate) (h : Fits g) where
 
   fit_ticking : (clock : ℕ) (a : Answer) (o : Ended) → Holds (Leaves g of_session) o → Holds (Leaves g of_session) (Validation.ticking g.core clock a o (lapse_of g.core clock))
   fit_ticking clock a o f =
-      by_lapse g.core h.core (λ (l : Lapse). Holds (Leaves g of_session) (Validation.ticking g.core clock a o l)) clock f (λ status. search (unvalidated, fit_end))
+      by_lapse g.core h.core (λ (l : Option Status). Holds (Leaves g of_session) (Validation.ticking g.core clock a o l)) clock f (λ status. search (unvalidated, fit_end))
 
   -- a session that runs has a phone whose id is in range
   fit_succeed : (a : Answer) (clock : ℕ) → in_progress g.core.validation.session ≡ true → Holds (Leaves g of_session) (Validation.succeed g.core a clock)
@@ -276,10 +273,10 @@ module _ (c : Core) (h : Fitting c) where
       let w = window_opens_lem bus frames count clock c.probe.relocks f (simp and-eq-true_iff at valid).0.1 in
       search)
 
-  fit_passed : (u : Unsent) → Holds SaidFits (Tx.passed c u)
+  fit_passed : (u : Option ℕ) → Holds SaidFits (Tx.passed c u)
   unfolding marked_sent window_fits leave quiet
-  fit_passed Nothing = search
-  fit_passed (At i) = search
+  fit_passed None = search
+  fit_passed (Some i) = search
 
   pub fit_allow : (bus : ℕ) (frame : CanFrame) (class : TxClass) (validated : Bool) (clock : ℕ) → Holds SaidFits (Tx.allow c bus frame class validated clock)
   unfolding leave Tx.allow Tx.allow_platform Tx.through_window

@@ -12,7 +12,7 @@ use Rattle.phones.specs.Ids.{some_of, all_of}
 use Rattle.sha256.specs.Sha256 as Sha256
 use Rattle.sha256_block.specs.Block.{M, W, rounds, plus}
 use Rattle.sha256.specs.Sha256.{pad, H₀, hash_from, sha256}
-use Rattle.car_digest.specs.declared.Digested.{Digested}
+use Rattle.std.specs.Prelude.{Option, unwrap_or, replicate}
 use Rattle.car_digest.specs.CarDigest.{car_digest}
 use Rattle.saved_record.specs.SavedRecord.{CarIds, encoded, over, ok, decoded}
 use Rattle.saved_record.proofs.Parts.{Digests}
@@ -52,9 +52,9 @@ sha256_long : (m : List ℕ) → length (sha256 m) ≡ 32
 unfolding sha256
 sha256_long m = let p = pad m in let i = length p / 64 in bytes_long (hash_from H₀ p i) ∙ ap (λ (n : ℕ). 4 * n) (hash_long p i)
 
-pub digest_long : (platform : ℕ) (fingerprint : List ℕ) → length (car_digest platform fingerprint).digest ≡ 32
+pub digest_long : (platform : ℕ) (fingerprint : List ℕ) → length (unwrap_or (car_digest platform fingerprint) (replicate 32 0)) ≡ 32
 unfolding car_digest
-digest_long platform fingerprint = cases (λ (d : Digested). length d.digest ≡ 32) (ltb 4096 (length fingerprint)) _ _ (λ e. refl) (λ e. sha256_long _)
+digest_long platform fingerprint = cases (λ (d : Option (List ℕ)). length (unwrap_or d (replicate 32 0)) ≡ 32) (ltb 4096 (length fingerprint)) _ _ (λ e. refl) (λ e. sha256_long _)
 
 -- ---- those of a store
 

@@ -9,8 +9,9 @@ use borrow.Author.Tests.{ltb-false}
 use lib.Dec.{ltb}
 use lib.ListN.{length, take, drop, replicate, length-append, length-take}
 use Rattle.arrays.specs.Arrays.{padded}
-use Rattle.draw.specs.Draw.{no_code_drawn, drawn}
-use Rattle.draw.proofs.Theorems.{code_form, no_code_lem}
+use Rattle.std.specs.Prelude.{Option, Some, None, IfSome, unwrap_or}
+use Rattle.draw.specs.Draw.{drawn}
+use Rattle.draw.proofs.Theorems.{Code, code_form}
 use Rattle.state.specs.Replies.{no_code}
 use Rattle.answers.specs.Answers.{shown_digits}
 use Rattle.two_runs.specs.Demand.{blanked}
@@ -64,17 +65,9 @@ repeat_past d (suc n) zero = rw zero-sub
 repeat_past d (suc n) (suc m) = rw suc-sub-suc (repeat_past d n m)
 
 -- nine bytes, and zeros past the digits, whatever is drawn and if nothing is
-pub blanked_drawn : (n : ℕ) (random : List ℕ) → blanked n (drawn random n).code ≡ blanked n no_code
-unfolding drawn
-blanked_drawn n random = go (ltb 9 n) refl
+pub blanked_drawn : (n : ℕ) (random : List ℕ) → blanked n (unwrap_or (drawn random n) no_code) ≡ blanked n no_code
+blanked_drawn n random = go (drawn random n) (code_form random n)
   where
-    none : drawn random n ≡ no_code_drawn → blanked n (drawn random n).code ≡ blanked n no_code
-    none e = λ i. blanked n (e i).code
-
-    few : n ≤ 9 → (b : Bool) → (drawn random n).ok ≡ b → blanked n (drawn random n).code ≡ blanked n no_code
-    few h true e = let f = code_form random n h e in blanked_as n _ no_code f.long (f.past ∙ sym (repeat_past 0 n 9))
-    few h false e = none (no_code_lem random n h e)
-
-    go : (b : Bool) → ltb 9 n ≡ b → blanked n (drawn random n).code ≡ blanked n no_code
-    go true e = none (rw (drawn, e))
-    go false e = few (ltb-false 9 n e) (drawn random n).ok refl
+    go : (o : Option (List ℕ)) → IfSome o (Code n) → blanked n (unwrap_or o no_code) ≡ blanked n no_code
+    go None f = refl
+    go (Some c) f = blanked_as n c no_code f.long (f.past ∙ sym (repeat_past 0 n 9))

@@ -1,4 +1,5 @@
 -- Demand 3, first part: two runs differ in nothing but the digits. One line or two for each constructor of Alike.
+use Rattle.std.specs.Prelude.{unwrap_or}
 use mathlib.Core.Path.{◌≡◌, refl, sym, subst, ◌∙◌}
 use mathlib.Core.Bool.{Bool, true, false, cond, true≢false}
 use mathlib.Core.List.{List, [], ◌∷◌}
@@ -173,7 +174,7 @@ module _ (g : Gate) (other : List ℕ) (e : blanked g.core.settings.digits g.cod
   unfolding says queueing view comes_to_draw judges
   twin (starts phone method clock r s a) =
       let n = g.core.settings.digits in
-      twin_served _ _ (λ f. twin_said (drawn r n).code (drawn s n).code (blanked_drawn n r ∙ sym (blanked_drawn n s)) _ _
+      twin_served _ _ (λ f. twin_said (unwrap_or (drawn r n) no_code) (unwrap_or (drawn s n) no_code) (blanked_drawn n r ∙ sym (blanked_drawn n s)) _ _
       (started g.core phone method clock _ _).fit (start_by g.core phone method clock (λ d. a (passes _ _ f d))) false stays)
   twin (submits phone clock t u a b) =
       twin_served _ _ (λ f. twin_ended _ _ (submitted_as g.core (tries_fit_lem here f).0 clock phone _ _ _).fit

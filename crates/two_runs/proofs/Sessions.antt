@@ -19,8 +19,8 @@ use Rattle.state.specs.Answers.{number, values}
 use Rattle.state.specs.Running.{is_code, in_progress, code_in_progress, method_at}
 use Rattle.state.specs.Replies.{leave, reply, notified, finish, challenge_changed}
 use Rattle.state.specs.Checks.{Check, checked, unmet}
-use Rattle.session.specs.declared.Lapse.{Lapse}
-use Rattle.session.specs.declared.Lapse.TheVariants.{Stays, Ends}
+use Rattle.std.specs.Prelude.{Option, Some, None}
+use Rattle.state.specs.declared.Status.{Status}
 use Rattle.session.specs.Session.{reply_of, ended_as, is_of, place_of, lapse_of}
 use Rattle.validation.specs.Calls.{start_checks, new_session, challenge_for, begin, start_as, start_at, start, draws, end_session, ticked_as, tick, ticking, unvalidated, runs_for, succeed, refilled, failed_core, tried_core, wrong, right_code, judge, judge_as, submitted, submit}
 use Rattle.footprint.proofs.Keeps.{either, each_check}
@@ -154,7 +154,7 @@ module _ (c : Core) (phone : List ℕ) (clock : ℕ) (full : Bool) {r r' : Bool}
   submit_by false e = refl
   submit_by true e = go (lapse_of c clock) (e refl)
     where
-      go : (l : Lapse) → (code_runs (ticked_as c clock l).core ≡ true → r ≡ r')
+      go : (l : Option Status) → (code_runs (ticked_as c clock l).core ≡ true → r ≡ r')
           → ticking c clock Answer.NoSession (submitted c phone clock r full) l ≡ ticking c clock Answer.NoSession (submitted c phone clock r' full) l
-      go Stays e = submitted_by e
-      go (Ends status) e = refl
+      go None e = submitted_by e
+      go (Some status) e = refl

@@ -1,5 +1,6 @@
 -- How many codes a part of a run may judge wrong: demand 3, second part, where a part is a session, and W-206, where it reaches from one
 -- refill of the tries to the next. What was judged wrong so far and what may still be judged wrong are together at most the number set.
+use Rattle.std.specs.Prelude.{is_some}
 use mathlib.Core.Path.{◌≡◌, refl, sym, ap, ◌∙◌}
 use mathlib.Core.Bool.{Bool, true, false, cond, ◌&&◌, false≢true}
 use mathlib.Core.List.{List, [], ◌∷◌}
@@ -130,7 +131,7 @@ session_takes g (Gate.new_gate_call settings methods count) e =
 session_takes g (Gate.start_validation phone method clock random) e =
     let d = drawn random g.core.settings.digits in
     at_gate tries_left g _ (λ n. 0) refl
-    (λ f. (started g.core phone method clock (is_lent random) d.ok).idle (sym (ap (λ (s : Says). eqb (number_of (laid_reply s.answer)) 0) (served_in (view g) _ f)) ∙ e))
+    (λ f. (started g.core phone method clock (is_lent random) (is_some d)).idle (sym (ap (λ (s : Says). eqb (number_of (laid_reply s.answer)) 0) (served_in (view g) _ f)) ∙ e))
 session_takes g (Gate.submit_validation_code phone typed clock) e =
     at_gate tries_left g _ (λ n. cond (eqb n 10) 1 0) refl
     (λ f. (submitted_as g.core (tries_fit_lem (view g) f).0 clock phone (is_text typed) (is_right g typed) (full_for (view g))).paid)
@@ -187,7 +188,7 @@ unfolding step gives says queueing saying view Gate.left refills judged_wrong
 gate_takes g (Gate.new_gate_call settings methods count) e = absurd (false≢true (sym e))
 gate_takes g (Gate.start_validation phone method clock random) e =
     let d = drawn random g.core.settings.digits in
-    at_gate gate_tries g _ (λ n. 0) refl (λ f. (started g.core phone method clock (is_lent random) d.ok).kept)
+    at_gate gate_tries g _ (λ n. 0) refl (λ f. (started g.core phone method clock (is_lent random) (is_some d)).kept)
 gate_takes g (Gate.submit_validation_code phone typed clock) e =
     at_gate gate_tries g _ (λ n. cond (eqb n 10) 1 0) refl
     (λ f. (submitted_as g.core (tries_fit_lem (view g) f).0 clock phone (is_text typed) (is_right g typed) (full_for (view g))).kept

@@ -28,8 +28,7 @@ use Rattle.waiting_list.specs.declared.Waiting.{Waiting}
 use Rattle.can_turns.specs.Turns.{serving}
 use Rattle.range.proofs.Laws.{within_is}
 use Rattle.range.specs.Range.{core_fits, tries_fit, in_range}
-use Rattle.session.specs.declared.Lapse.{Lapse}
-use Rattle.session.specs.declared.Lapse.TheVariants.{Stays, Ends}
+use Rattle.std.specs.Prelude.{Option, Some, None}
 use Rattle.session.specs.Session.{ended_as, lapse_of, cannot_go_on}
 use Rattle.validation.specs.Calls.{end_session, ticked_as, tick, ticking, refilled, succeed, succeeded_core, cancel, is_action, completed, complete}
 use Rattle.definition.specs.Gate as Gate
@@ -143,7 +142,7 @@ turn_succeed c a clock = turn_ends c _ 0 a _ refl refl zero-le (λ z. absurd (tr
 -- ---- a session's calls
 
 -- `P` holds of what a tick leads to if it holds where the session stays and where the tick ends it
-pub lapse_as : (P : Lapse → Type 0) (c : Core) (clock : ℕ) → P Stays → ((status : Status) → is_running status ≡ false → P (Ends status)) → P (lapse_of c clock)
+pub lapse_as : (P : Option Status → Type 0) (c : Core) (clock : ℕ) → P None → ((status : Status) → is_running status ≡ false → P (Some status)) → P (lapse_of c clock)
 unfolding lapse_of
 lapse_as P c clock stays ends =
     let s = c.validation.session in

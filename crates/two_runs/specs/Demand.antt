@@ -1,6 +1,6 @@
 -- Demand 3: two runs of one list of calls differ in nothing but the digits of the drawn code, and no session judges more
 -- codes wrong than tries were set. `Demand3`, at the end, is the whole claim.
-use Rattle.std.specs.Prelude.{ℕ, zero, suc, ◌+◌, ◌≤◌, ◌≡◌, Bool, true, false, cond, ◌&&◌, List, [], ◌∷◌, map, eqb}
+use Rattle.std.specs.Prelude.{ℕ, zero, suc, ◌+◌, ◌≤◌, ◌≡◌, Bool, true, false, cond, ◌&&◌, List, [], ◌∷◌, map, is_some, eqb}
 use Rattle.state.specs.declared.Core.{Core}
 use Rattle.state.specs.declared.Gate.{Gate}
 use Rattle.state.specs.declared.Challenge.{Challenge}
@@ -85,7 +85,7 @@ is_right g typed = right g.code g.core.settings.digits typed
 
 -- whether a draw gives a code
 abbrev pub gives : Gate → List ℕ → Bool
-gives g random = (drawn random g.core.settings.digits).ok
+gives g random = is_some (drawn random g.core.settings.digits)
 
 -- The call at one place of the list in both runs, whose gates there are g and h: every argument is shared, but a start's
 -- random bytes and a submit's typed bytes. What is asked of these: of a start that comes to its draw, bytes are lent in both

@@ -6,6 +6,7 @@ use mathlib.Core.Path.{◌≡◌, refl}
 use mathlib.Core.Bool.{Bool, true, false}
 use mathlib.Core.List.{List, [], ◌∷◌, ◌++◌}
 use lib.ListN.{replicate, set}
+use Rattle.std.specs.Prelude.{unwrap_or}
 use Rattle.arrays.specs.Arrays.{padded, same_bytes}
 use Rattle.phones.specs.Ids.{all_of, contains, joined, kept, pushed, remove_all, room_for, some_of}
 use Rattle.phones.specs.Phones.{id_bytes, id_in_range, id_of, ids_in, list_in_range, list_of, phones_of, too_long}
@@ -117,7 +118,7 @@ restored bytes = on_lists (Gate.restore_phone_validations bytes) ∷ []
 
 -- this bike, with the phone, as a record of either version
 abbrev stored : CarIds
-stored = record { car = (car_digest 0 (1 ∷ 2 ∷ 3 ∷ [])).digest; phones = phone ∷ [] }
+stored = record { car = unwrap_or (car_digest 0 (1 ∷ 2 ∷ 3 ∷ [])) (replicate 32 0); phones = phone ∷ [] }
 
 abbrev version_two : List ℕ
 version_two = encoded (stored ∷ [])
