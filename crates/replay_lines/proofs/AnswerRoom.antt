@@ -1,5 +1,4 @@
 -- The room that an answer takes. Its numbers are of their types: `Owned` is what having such a value tells.
-use mathlib.Core.Path.{refl}
 use mathlib.Core.List.{List, [], ◌∷◌}
 use Prim.Native.Nat.{ℕ, zero, suc, ◌^◌, ◌≤◌, ◌<◌}
 use native.Mathlib.Nat.{le_of_eq}
@@ -28,8 +27,9 @@ use Rattle.replay_lines.specs.declared.answer.Held.TheVariants.{Fine, Blank, Ite
 use Rattle.replay_lines.specs.Answer.{name_of, held_by, status_name, reply, behind, answer}
 use Rattle.replay_page.specs.Page.{bytes}
 use Rattle.replay_page.specs.Room.{Within}
-use Rattle.replay_lines.specs.Table.{key_names, keys}
-use Rattle.replay_page.proofs.Room.{◌⊕◌, upto, same, item_in, flag_in_lem, word_in, part_in, short}
+use Rattle.replay_lines.specs.declared.key.Key.{Key}
+use Rattle.replay_lines.specs.Table.{key_text}
+use Rattle.replay_page.proofs.Room.{◌⊕◌, upto, same, item_in, flag_in_lem, word_in, part_in}
 use Rattle.replay_lines.proofs.Room.{kind_word_in, status_in}
 
 abbrev pub Owned : (F : Field) → F.Value → List Val → Type 0
@@ -51,9 +51,73 @@ saved_in r vs h = part_in r.bytes r.len 4358 (le_of_eq (search rules))
 
 -- ---- keys, and the session reply
 
-key_in : (k : ℕ) → length (get_or keys k []) < 21
-unfolding keys key_names
-key_in k = short 20 keys refl k
+key_in : (k : Key) → length (key_text k) ≤ 20
+key_in Key.Answer = lit≤ tt
+key_in Key.Count = lit≤ tt
+key_in Key.Number = lit≤ tt
+key_in Key.Reason = lit≤ tt
+key_in Key.Seconds = lit≤ tt
+key_in Key.Method = lit≤ tt
+key_in Key.Kind = lit≤ tt
+key_in Key.Status = lit≤ tt
+key_in Key.Digits = lit≤ tt
+key_in Key.Tries = lit≤ tt
+key_in Key.Cooldown = lit≤ tt
+key_in Key.Approval = lit≤ tt
+key_in Key.Platform = lit≤ tt
+key_in Key.Car = lit≤ tt
+key_in Key.DevLock = lit≤ tt
+key_in Key.DevUnlocked = lit≤ tt
+key_in Key.Logging = lit≤ tt
+key_in Key.ReadOnly = lit≤ tt
+key_in Key.Phones = lit≤ tt
+key_in Key.Trust = lit≤ tt
+key_in Key.CarHasValidated = lit≤ tt
+key_in Key.Session = lit≤ tt
+key_in Key.Peer = lit≤ tt
+key_in Key.Validated = lit≤ tt
+key_in Key.Methods = lit≤ tt
+key_in Key.Code = lit≤ tt
+key_in Key.Record = lit≤ tt
+key_in Key.SessionMs = lit≤ tt
+key_in Key.CooldownMs = lit≤ tt
+key_in Key.KeepMs = lit≤ tt
+key_in Key.Bonded = lit≤ tt
+key_in Key.PlatformNumber = lit≤ tt
+key_in Key.PlatformConfirmed = lit≤ tt
+key_in Key.Production = lit≤ tt
+key_in Key.VehicleReadOnly = lit≤ tt
+key_in Key.Fd = lit≤ tt
+key_in Key.Comma = lit≤ tt
+key_in Key.Paired = lit≤ tt
+key_in Key.ValidatedCar = lit≤ tt
+key_in Key.CooldownUntil = lit≤ tt
+key_in Key.NextSession = lit≤ tt
+key_in Key.Phone = lit≤ tt
+key_in Key.SessionCar = lit≤ tt
+key_in Key.TriesLeft = lit≤ tt
+key_in Key.Deadline = lit≤ tt
+key_in Key.EndedAt = lit≤ tt
+key_in Key.Window = lit≤ tt
+key_in Key.Frames = lit≤ tt
+key_in Key.OpenedAt = lit≤ tt
+key_in Key.RelocksThen = lit≤ tt
+key_in Key.Sent = lit≤ tt
+key_in Key.Attempts = lit≤ tt
+key_in Key.Relocks = lit≤ tt
+key_in Key.Marks = lit≤ tt
+key_in Key.Room = lit≤ tt
+key_in Key.Output = lit≤ tt
+key_in Key.Taken = lit≤ tt
+key_in Key.End = lit≤ tt
+key_in Key.Save = lit≤ tt
+key_in Key.At = lit≤ tt
+key_in Key.RecordBytes = lit≤ tt
+key_in Key.Turns = lit≤ tt
+key_in Key.Length = lit≤ tt
+key_in Key.Records = lit≤ tt
+key_in Key.Waiting = lit≤ tt
+key_in Key.LastBus = lit≤ tt
 
 reply_in : (r : SessionReply) (vs : List Val) → Owned SessionReply.the_field r vs → Within 173 (reply r)
 unfolding reply
@@ -116,7 +180,7 @@ shown_in NoSave vs h = (lit≤ tt, tt)
 behind_in : (h : Held) → HeldIn h → Within 173 (behind h)
 behind_in Fine u = same 173
 behind_in Blank u = same 173
-behind_in (Item k n) u = upto 173 (omega (arith, key_in k)) (item_in (get_or keys k []) n u)
+behind_in (Item k n) u = upto 173 (omega (arith, key_in k)) (item_in (key_text k) n u)
 behind_in (Part n end) u = upto 173 (lit≤ tt) (item_in (ascii " taken=") n u ⊕ flag_in_lem (ascii " end=") end)
 behind_in (Reply r) u = u
 behind_in (Wrong r) u = u

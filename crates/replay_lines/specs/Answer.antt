@@ -1,5 +1,5 @@
 -- How an answer is shown: the number and name of a refusal (documents 01 and 02), and the values behind an answer.
-use Rattle.std.specs.Prelude.{Bool, List, [], ℕ, eqb, get_or}
+use Rattle.std.specs.Prelude.{Bool, List, ℕ, eqb}
 use Rattle.ascii.specs.Ascii.{ascii}
 use Rattle.state.specs.Answers.{number}
 use Rattle.state.specs.declared.Answer.{Answer}
@@ -12,7 +12,8 @@ use Rattle.state.specs.declared.Status.TheVariants.{InProgress, Succeeded, Faile
 use Rattle.replay_lines.specs.declared.answer.Held.{Held}
 use Rattle.replay_lines.specs.declared.answer.Held.TheVariants.{Fine, Blank, Item, Part, Reply, Wrong}
 use Rattle.replay_page.specs.Page.{Page, ◌▸◌, item, flag, word}
-use Rattle.replay_lines.specs.Table.{keys, key_of}
+use Rattle.replay_lines.specs.declared.key.Key.TheVariants as Key
+use Rattle.replay_lines.specs.Table.{key_text}
 
 -- the name of an answer, and what it holds
 abbrev pub shown_as : Answer → List ℕ × Held
@@ -20,14 +21,14 @@ shown_as Done = (ascii "ok", Fine)
 shown_as Yes = (ascii "yes", Blank)
 shown_as No = (ascii "no", Blank)
 shown_as Nothing = (ascii "none", Blank)
-shown_as (Count n) = (ascii "ok", Item (key_of " count=") n)
-shown_as (Number n) = (ascii "ok", Item (key_of " number=") n)
-shown_as (Reason n) = (ascii "ok", Item (key_of " reason=") n)
+shown_as (Count n) = (ascii "ok", Item Key.Count n)
+shown_as (Number n) = (ascii "ok", Item Key.Number n)
+shown_as (Reason n) = (ascii "ok", Item Key.Reason n)
 shown_as (Session r) = (ascii "ok", Reply r)
 shown_as (Taken n end) = (ascii "ok", Part n end)
 shown_as UnknownMethod = (ascii "1/UnknownMethod", Blank)
 shown_as CarNotIdentified = (ascii "2/CarNotIdentified", Blank)
-shown_as (CoolingDown n) = (ascii "3/CoolingDown", Item (key_of " seconds=") n)
+shown_as (CoolingDown n) = (ascii "3/CoolingDown", Item Key.Seconds n)
 shown_as OtherPhoneSession = (ascii "4/OtherPhoneSession", Blank)
 shown_as MethodUnavailable = (ascii "5/MethodUnavailable", Blank)
 shown_as MethodNotAvailableNow = (ascii "6/MethodNotAvailableNow", Blank)
@@ -91,7 +92,7 @@ reply r p =
 abbrev pub behind : Held → Page → Page
 behind Fine p = p
 behind Blank p = p
-behind (Item k n) p = p ▸ item (get_or keys k []) n
+behind (Item k n) p = p ▸ item (key_text k) n
 behind (Part n end) p = p ▸ item (ascii " taken=") n ▸ flag (ascii " end=") end
 behind (Reply r) p = reply r p
 behind (Wrong r) p = reply r p

@@ -1,101 +1,99 @@
 // Answers, with the numbers and names of documents 01 and 02.
-ghost use Rattle.std.specs.Prelude.{◌≡◌, [], eqb, get_or};
+ghost use Rattle.std.specs.Prelude.{◌≡◌};
 ghost use Rattle.replay_page.specs.Page.{page};
-ghost use Rattle.replay_lines.specs.Table.{words, word_of};
+ghost use Rattle.replay_lines.specs.Table.{word_text, is_bad_settings};
 ghost use Rattle.replay_lines.specs.Answer.{name_of, held_by, is_out_of_range, kind_name, status_name, reply, behind, answer};
 
-use crate::fields::Field;
-use crate::{key, word};
+use crate::fields::{Field, put_field, put_fields};
+use crate::key::Key;
+use crate::word::Word;
 use state::{Answer, Kind, SessionReply, Status};
 
-// What an answer holds. An item is the place of its key and a number; a part of a save, how many bytes, and whether they are the last.
+// What an answer holds. A part of a save: how many bytes, and whether they are the last.
 #[derive(Clone, Copy)]
 pub enum Held {
     Fine,
     Blank,
-    Item(usize, u64),
+    Item(Key, u64),
     Part(u64, bool),
     Reply(SessionReply),
     Wrong(SessionReply),
 }
 
-// The place of an answer's name among the words, and what it holds.
+// An answer's name, and what it holds.
 #[derive(Clone, Copy)]
-pub struct Shown(pub usize, pub Held);
+pub struct Shown(pub Word, pub Held);
 
-#[tactic(auto, unfolding(crate::specs::Table::find, crate::specs::Table::key_names, crate::specs::Table::key_of, crate::specs::Table::keys, arrays::specs::Arrays::same_bytes, crate::specs::Table::word_names, crate::specs::Table::word_of, crate::specs::Table::words))]
 pub fn shown_by(a: Answer) -> Shown
-    ensures { (get_or words result.0 [] ≡ name_of a) × (result.1 ≡ held_by a) × (eqb result.0 (word_of "25/BadSettings") ≡ is_out_of_range a) }
+    ensures { (word_text result.0 ≡ name_of a) × (result.1 ≡ held_by a) × (is_bad_settings result.0 ≡ is_out_of_range a) }
 {
     match a {
-        Answer::Done => Shown(0, Held::Fine),
-        Answer::Yes => Shown(1, Held::Blank),
-        Answer::No => Shown(2, Held::Blank),
-        Answer::Nothing => Shown(3, Held::Blank),
-        Answer::Count(n) => Shown(0, Held::Item(key::COUNT, n as u64)),
-        Answer::Number(n) => Shown(0, Held::Item(key::NUMBER, n as u64)),
-        Answer::Reason(n) => Shown(0, Held::Item(key::REASON, n as u64)),
-        Answer::Session(s) => Shown(0, Held::Reply(s)),
-        Answer::Taken(n, end) => Shown(0, Held::Part(n as u64, end)),
-        Answer::UnknownMethod => Shown(4, Held::Blank),
-        Answer::CarNotIdentified => Shown(5, Held::Blank),
-        Answer::CoolingDown(n) => Shown(6, Held::Item(key::SECONDS, n as u64)),
-        Answer::OtherPhoneSession => Shown(7, Held::Blank),
-        Answer::MethodUnavailable => Shown(8, Held::Blank),
-        Answer::MethodNotAvailableNow => Shown(9, Held::Blank),
-        Answer::NoRandomSource => Shown(10, Held::Blank),
-        Answer::NoSession => Shown(11, Held::Blank),
-        Answer::NotCodeEntry => Shown(12, Held::Blank),
-        Answer::WrongCode(s) => Shown(13, Held::Wrong(s)),
-        Answer::NoDevLock => Shown(14, Held::Blank),
-        Answer::NotNeeded => Shown(15, Held::Blank),
-        Answer::Logging => Shown(16, Held::Blank),
-        Answer::BusAsleep => Shown(17, Held::Blank),
-        Answer::Busy => Shown(18, Held::Blank),
-        Answer::NoAttemptsLeft => Shown(19, Held::Blank),
-        Answer::Invalid => Shown(20, Held::Blank),
-        Answer::IdTooLong => Shown(21, Held::Blank),
-        Answer::RandomSpent => Shown(22, Held::Blank),
-        Answer::NotText => Shown(23, Held::Blank),
-        Answer::ListFull => Shown(24, Held::Blank),
-        Answer::Malformed => Shown(25, Held::Blank),
-        Answer::TooLarge => Shown(26, Held::Blank),
-        Answer::BadFrame => Shown(27, Held::Blank),
-        Answer::BadSettings => Shown(28, Held::Blank),
-        Answer::BadBus => Shown(29, Held::Blank),
-        Answer::QueueFull => Shown(30, Held::Blank),
-        Answer::CarTwice => Shown(31, Held::Blank),
-        Answer::NoSave => Shown(34, Held::Blank),
+        Answer::Done => Shown(Word::Ok, Held::Fine),
+        Answer::Yes => Shown(Word::Yes, Held::Blank),
+        Answer::No => Shown(Word::No, Held::Blank),
+        Answer::Nothing => Shown(Word::None, Held::Blank),
+        Answer::Count(n) => Shown(Word::Ok, Held::Item(Key::Count, n as u64)),
+        Answer::Number(n) => Shown(Word::Ok, Held::Item(Key::Number, n as u64)),
+        Answer::Reason(n) => Shown(Word::Ok, Held::Item(Key::Reason, n as u64)),
+        Answer::Session(s) => Shown(Word::Ok, Held::Reply(s)),
+        Answer::Taken(n, end) => Shown(Word::Ok, Held::Part(n as u64, end)),
+        Answer::UnknownMethod => Shown(Word::UnknownMethod, Held::Blank),
+        Answer::CarNotIdentified => Shown(Word::CarNotIdentified, Held::Blank),
+        Answer::CoolingDown(n) => Shown(Word::CoolingDown, Held::Item(Key::Seconds, n as u64)),
+        Answer::OtherPhoneSession => Shown(Word::OtherPhoneSession, Held::Blank),
+        Answer::MethodUnavailable => Shown(Word::MethodUnavailable, Held::Blank),
+        Answer::MethodNotAvailableNow => Shown(Word::MethodNotAvailableNow, Held::Blank),
+        Answer::NoRandomSource => Shown(Word::NoRandomSource, Held::Blank),
+        Answer::NoSession => Shown(Word::NoSession, Held::Blank),
+        Answer::NotCodeEntry => Shown(Word::NotCodeEntry, Held::Blank),
+        Answer::WrongCode(s) => Shown(Word::WrongCode, Held::Wrong(s)),
+        Answer::NoDevLock => Shown(Word::NoDevLock, Held::Blank),
+        Answer::NotNeeded => Shown(Word::NotNeeded, Held::Blank),
+        Answer::Logging => Shown(Word::Logging, Held::Blank),
+        Answer::BusAsleep => Shown(Word::BusAsleep, Held::Blank),
+        Answer::Busy => Shown(Word::Busy, Held::Blank),
+        Answer::NoAttemptsLeft => Shown(Word::NoAttemptsLeft, Held::Blank),
+        Answer::Invalid => Shown(Word::Invalid, Held::Blank),
+        Answer::IdTooLong => Shown(Word::IdTooLong, Held::Blank),
+        Answer::RandomSpent => Shown(Word::RandomSpent, Held::Blank),
+        Answer::NotText => Shown(Word::NotText, Held::Blank),
+        Answer::ListFull => Shown(Word::ListFull, Held::Blank),
+        Answer::Malformed => Shown(Word::Malformed, Held::Blank),
+        Answer::TooLarge => Shown(Word::TooLarge, Held::Blank),
+        Answer::BadFrame => Shown(Word::BadFrame, Held::Blank),
+        Answer::BadSettings => Shown(Word::BadSettings, Held::Blank),
+        Answer::BadBus => Shown(Word::BadBus, Held::Blank),
+        Answer::QueueFull => Shown(Word::QueueFull, Held::Blank),
+        Answer::CarTwice => Shown(Word::CarTwice, Held::Blank),
+        Answer::NoSave => Shown(Word::NoSave, Held::Blank),
     }
 }
 
 pub fn is_out_of_range(a: Answer) -> bool
     ensures { result ≡ is_out_of_range a }
 {
-    let s = shown_by(a);
-    s.0 == word::BAD_SETTINGS
+    let Shown(word, _) = shown_by(a);
+    matches!(word, Word::BadSettings)
 }
 
-#[tactic(auto, unfolding(crate::specs::Table::word_names, crate::specs::Table::words))]
-pub fn kind_word(k: Kind) -> usize
-    ensures { get_or words result [] ≡ kind_name k }
+pub fn kind_word(k: Kind) -> Word
+    ensures { word_text result ≡ kind_name k }
 {
     match k {
-        Kind::CodeEntry => word::CODE,
-        Kind::InCarAction => word::ACTION,
+        Kind::CodeEntry => Word::Code,
+        Kind::InCarAction => Word::Action,
     }
 }
 
-#[tactic(auto, unfolding(crate::specs::Table::word_names, crate::specs::Table::words))]
-pub fn status_word(s: Status) -> usize
-    ensures { get_or words result [] ≡ status_name s }
+pub fn status_word(s: Status) -> Word
+    ensures { word_text result ≡ status_name s }
 {
     match s {
-        Status::InProgress => word::IN_PROGRESS,
-        Status::Succeeded => word::SUCCEEDED,
-        Status::Failed => word::FAILED,
-        Status::Cancelled => word::CANCELLED,
-        Status::TimedOut => word::TIMED_OUT,
+        Status::InProgress => Word::InProgress,
+        Status::Succeeded => Word::Succeeded,
+        Status::Failed => Word::Failed,
+        Status::Cancelled => Word::Cancelled,
+        Status::TimedOut => Word::TimedOut,
     }
 }
 
@@ -103,38 +101,30 @@ pub fn status_word(s: Status) -> usize
 pub fn put_reply(out: &mut [u8], at: usize, s: SessionReply) -> usize
     ensures { page out.new result ≡ reply s (page out.old at) }
 {
-    let what = s.kind;
-    let kind = kind_word(what);
-    let how = s.status;
-    let status = status_word(how);
     let fields = [
-        Field::Number(key::METHOD, s.method as u64),
-        Field::Word(key::KIND, kind),
-        Field::Word(key::STATUS, status),
-        Field::Number(key::DIGITS, s.length as u64),
-        Field::Number(key::TRIES, s.tries as u64),
-        Field::Number(key::SECONDS, s.seconds as u64),
-        Field::Number(key::COOLDOWN, s.cooldown as u64),
-        Field::Nothing,
+        Field::Number(Key::Method, s.method as u64),
+        Field::Word(Key::Kind, kind_word(s.kind)),
+        Field::Word(Key::Status, status_word(s.status)),
+        Field::Number(Key::Digits, s.length as u64),
+        Field::Number(Key::Tries, s.tries as u64),
+        Field::Number(Key::Seconds, s.seconds as u64),
+        Field::Number(Key::Cooldown, s.cooldown as u64),
     ];
-    crate::fields::put_fields(out, at, b"", fields)
+    put_fields(out, at, b"", &fields)
 }
 
 // What stands behind an answer's name.
-#[tactic(auto, unfolding(crate::specs::Table::key_names, crate::specs::Table::keys))]
 fn put_held(out: &mut [u8], at: usize, h: Held) -> usize
     ensures { page out.new result ≡ behind h (page out.old at) }
 {
     match h {
-        Held::Fine => at,
-        Held::Blank => at,
-        Held::Item(k, n) => crate::fields::put_field(out, at, b"", Field::Number(k, n)),
+        Held::Fine | Held::Blank => at,
+        Held::Item(k, n) => put_field(out, at, b"", Field::Number(k, n)),
         Held::Part(n, end) => {
-            let k = crate::fields::put_field(out, at, b"", Field::Number(key::TAKEN, n));
-            crate::fields::put_field(out, k, b"", Field::Flag(key::END, end))
+            let k = put_field(out, at, b"", Field::Number(Key::Taken, n));
+            put_field(out, k, b"", Field::Flag(Key::End, end))
         }
-        Held::Reply(s) => put_reply(out, at, s),
-        Held::Wrong(s) => put_reply(out, at, s),
+        Held::Reply(s) | Held::Wrong(s) => put_reply(out, at, s),
     }
 }
 
@@ -142,8 +132,7 @@ fn put_held(out: &mut [u8], at: usize, h: Held) -> usize
 pub fn put_answer(out: &mut [u8], at: usize, a: Answer) -> usize
     ensures { page out.new result ≡ answer a (page out.old at) }
 {
-    let s = shown_by(a);
-    let k = crate::fields::put_field(out, at, b"", Field::Word(key::ANSWER, s.0));
-    let h = s.1;
-    put_held(out, k, h)
+    let Shown(word, held) = shown_by(a);
+    let k = put_field(out, at, b"", Field::Word(Key::Answer, word));
+    put_held(out, k, held)
 }

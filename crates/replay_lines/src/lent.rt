@@ -4,7 +4,7 @@ ghost use Rattle.replay_lines.specs.Lent.{most_lent, output};
 ghost use Rattle.replay_page.specs.Page.{page};
 
 use crate::fields::Field;
-use crate::key;
+use crate::key::Key;
 
 // The bytes stand in front.
 pub fn copy_of(lent: &[u8]) -> [u8; 8192]
@@ -19,5 +19,5 @@ pub fn copy_of(lent: &[u8]) -> [u8; 8192]
 pub fn put_output(out: &mut [u8], at: usize, lent: &[u8]) -> usize
     ensures { page out.new result ≡ output lent.now (page out.old at) }
 {
-    crate::fields::put_field(out, at, lent, Field::Known(key::OUTPUT, true))
+    crate::fields::put_field(out, at, lent, Field::Known(Key::Output, true))
 }

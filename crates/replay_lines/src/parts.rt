@@ -12,8 +12,7 @@ use state::Method;
 pub fn put_phone(out: &mut [u8], at: usize, p: ShortId) -> usize
     ensures { page out.new result ≡ bytes (id_bytes p) (page out.old at) }
 {
-    let all = p.bytes;
-    replay_page::put_first(out, at, &all, p.len)
+    replay_page::put_first(out, at, &p.bytes, p.len)
 }
 
 // The id at place `i` of a list.
@@ -28,18 +27,12 @@ fn put_phone_at(out: &mut [u8], at: usize, i: usize, id: &[u8]) -> usize
 pub fn put_phones(out: &mut [u8], at: usize, l: PhoneList) -> usize
     ensures { page out.new result ≡ ids_from 0 (phones_of l) (page out.old at) }
 {
-    let lens = l.lens;
-    let count = l.count;
-    let ids: &[u8] = &l.bytes;
-    let n = phones::clamp(count);
     let mut k = at;
     let mut from = 0;
-    let mut i = 0;
-    while i < n {
-        let end = from + phones::part(lens[i], ids.len() - from);
-        k = put_phone_at(out, k, i, &ids[from..end]);
+    for i in 0..phones::clamp(l.count) {
+        let end = from + phones::part(l.lens[i], l.bytes.len() - from);
+        k = put_phone_at(out, k, i, &l.bytes[from..end]);
         from = end;
-        i += 1;
     }
     k
 }
@@ -48,12 +41,9 @@ pub fn put_phones(out: &mut [u8], at: usize, l: PhoneList) -> usize
 pub fn put_method(out: &mut [u8], at: usize, m: Method) -> usize
     ensures { page out.new result ≡ method m (page out.old at) }
 {
-    let id = m.id;
-    let k = put_phone(out, at, id);
+    let k = put_phone(out, at, m.id);
     let k = replay_page::put_text(out, k, b"/");
-    let what = m.kind;
-    let kind = crate::answer::kind_word(what);
-    let k = crate::fields::put_word(out, k, kind);
+    let k = crate::fields::put_word(out, k, crate::answer::kind_word(m.kind));
     replay_page::put_flag(out, k, b"/", m.needs_approval)
 }
 
@@ -61,6 +51,5 @@ pub fn put_method(out: &mut [u8], at: usize, m: Method) -> usize
 pub fn put_saved(out: &mut [u8], at: usize, saved: SavedRecord) -> usize
     ensures { page out.new result ≡ bytes (take saved.len saved.bytes) (page out.old at) }
 {
-    let all = saved.bytes;
-    replay_page::put_first(out, at, &all, saved.len)
+    replay_page::put_first(out, at, &saved.bytes, saved.len)
 }

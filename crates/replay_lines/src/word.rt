@@ -1,88 +1,117 @@
-// The words that are values of fields, a row to a line. Document 01's refusal of number n stands at place n + 3, and behind them those of
-// document 02 by their numbers.
+// The words that are values of fields.
+ghost use Rattle.std.specs.Prelude.{◌≡◌};
+ghost use Rattle.replay_lines.specs.Table.{word_text};
 
-pub const WORDS: [u8; 587] = *b"ok
-yes
-no
-none
-1/UnknownMethod
-2/CarNotIdentified
-3/CoolingDown
-4/OtherPhoneSession
-5/MethodUnavailable
-6/MethodNotAvailableNow
-7/NoRandomSource
-8/NoSession
-9/NotCodeEntry
-10/WrongCode
-11/NoDevLock
-12/NotNeeded
-13/Logging
-14/BusAsleep
-15/Busy
-16/NoAttemptsLeft
-17/Invalid
-18/IdTooLong
-19/RandomSpent
-20/NotText
-21/ListFull
-22/Malformed
-23/TooLarge
-24/BadFrame
-25/BadSettings
-26/BadBus
-27/QueueFull
-28/CarTwice
-29/ManyCars
-30/ShortOutput
-31/NoSave
-code
-action
-in_progress
-succeeded
-failed
-cancelled
-timed_out
-not_approved
-awaiting_car
-approved
-other_car
-not_bonded
-bonded
-validated
-never
-";
+// Behind the first four the refusals of document 01 in the order of their numbers, then those of document 02, each with its number.
+#[derive(Clone, Copy)]
+pub enum Word {
+    Ok,
+    Yes,
+    No,
+    None,
+    UnknownMethod,
+    CarNotIdentified,
+    CoolingDown,
+    OtherPhoneSession,
+    MethodUnavailable,
+    MethodNotAvailableNow,
+    NoRandomSource,
+    NoSession,
+    NotCodeEntry,
+    WrongCode,
+    NoDevLock,
+    NotNeeded,
+    Logging,
+    BusAsleep,
+    Busy,
+    NoAttemptsLeft,
+    Invalid,
+    IdTooLong,
+    RandomSpent,
+    NotText,
+    ListFull,
+    Malformed,
+    TooLarge,
+    BadFrame,
+    BadSettings,
+    BadBus,
+    QueueFull,
+    CarTwice,
+    ManyCars,
+    ShortOutput,
+    NoSave,
+    Code,
+    Action,
+    InProgress,
+    Succeeded,
+    Failed,
+    Cancelled,
+    TimedOut,
+    NotApproved,
+    AwaitingCar,
+    Approved,
+    OtherCar,
+    NotBonded,
+    Bonded,
+    Validated,
+    Never,
+}
 
-pub const NONE: usize = 3;
-
-pub const BAD_SETTINGS: usize = 28;
-
-pub const CODE: usize = 35;
-
-pub const ACTION: usize = 36;
-
-pub const IN_PROGRESS: usize = 37;
-
-pub const SUCCEEDED: usize = 38;
-
-pub const FAILED: usize = 39;
-
-pub const CANCELLED: usize = 40;
-
-pub const TIMED_OUT: usize = 41;
-
-pub const NOT_APPROVED: usize = 42;
-
-pub const AWAITING_CAR: usize = 43;
-
-pub const APPROVED: usize = 44;
-
-pub const OTHER_CAR: usize = 45;
-
-pub const NOT_BONDED: usize = 46;
-
-pub const BONDED: usize = 47;
-
-pub const VALIDATED: usize = 48;
-
-pub const NEVER: usize = 49;
+impl Word {
+    pub fn text(self) -> &'static [u8]
+        ensures { result.now ≡ word_text self }
+    {
+        match self {
+            Word::Ok => b"ok",
+            Word::Yes => b"yes",
+            Word::No => b"no",
+            Word::None => b"none",
+            Word::UnknownMethod => b"1/UnknownMethod",
+            Word::CarNotIdentified => b"2/CarNotIdentified",
+            Word::CoolingDown => b"3/CoolingDown",
+            Word::OtherPhoneSession => b"4/OtherPhoneSession",
+            Word::MethodUnavailable => b"5/MethodUnavailable",
+            Word::MethodNotAvailableNow => b"6/MethodNotAvailableNow",
+            Word::NoRandomSource => b"7/NoRandomSource",
+            Word::NoSession => b"8/NoSession",
+            Word::NotCodeEntry => b"9/NotCodeEntry",
+            Word::WrongCode => b"10/WrongCode",
+            Word::NoDevLock => b"11/NoDevLock",
+            Word::NotNeeded => b"12/NotNeeded",
+            Word::Logging => b"13/Logging",
+            Word::BusAsleep => b"14/BusAsleep",
+            Word::Busy => b"15/Busy",
+            Word::NoAttemptsLeft => b"16/NoAttemptsLeft",
+            Word::Invalid => b"17/Invalid",
+            Word::IdTooLong => b"18/IdTooLong",
+            Word::RandomSpent => b"19/RandomSpent",
+            Word::NotText => b"20/NotText",
+            Word::ListFull => b"21/ListFull",
+            Word::Malformed => b"22/Malformed",
+            Word::TooLarge => b"23/TooLarge",
+            Word::BadFrame => b"24/BadFrame",
+            Word::BadSettings => b"25/BadSettings",
+            Word::BadBus => b"26/BadBus",
+            Word::QueueFull => b"27/QueueFull",
+            Word::CarTwice => b"28/CarTwice",
+            Word::ManyCars => b"29/ManyCars",
+            Word::ShortOutput => b"30/ShortOutput",
+            Word::NoSave => b"31/NoSave",
+            Word::Code => b"code",
+            Word::Action => b"action",
+            Word::InProgress => b"in_progress",
+            Word::Succeeded => b"succeeded",
+            Word::Failed => b"failed",
+            Word::Cancelled => b"cancelled",
+            Word::TimedOut => b"timed_out",
+            Word::NotApproved => b"not_approved",
+            Word::AwaitingCar => b"awaiting_car",
+            Word::Approved => b"approved",
+            Word::OtherCar => b"other_car",
+            Word::NotBonded => b"not_bonded",
+            Word::Bonded => b"bonded",
+            Word::Validated => b"validated",
+            Word::Never => b"never",
+        }
+    }
+}

@@ -1,13 +1,6 @@
 -- The room that each kind of text takes.
-use mathlib.Core.Path.{◌≡◌, refl, ◌∙◌}
-use mathlib.Core.Bool.{Bool, true, false, cond}
-use mathlib.Core.List.{List, [], ◌∷◌}
-use Prim.Native.Nat.{ℕ, zero, suc, ◌+◌, ◌*◌, ◌/◌, ◌%◌, ◌^◌, ◌≤◌, ◌<◌}
-use native.Mathlib.Omega.{arith}
-use borrow.Author.Tests.{le-ltb, ltb-true}
-use lib.Dec.{eqb, ltb, lit≤}
-use lib.ListN.{length, take, get_or, length-take}
-use Rattle.arrays.proofs.Laws.{both, put_length}
+use Rattle.std.proofs.Common.{refl, ◌∙◌, Bool, true, false, cond, List, [], ◌∷◌, ℕ, ◌+◌, ◌*◌, ◌/◌, ◌%◌, ◌^◌, ◌≤◌, ◌<◌, arith, le-ltb, eqb, ltb, lit≤, length, take, length-take}
+use Rattle.arrays.proofs.Laws.{put_length}
 use Rattle.ascii.specs.Ascii.{ascii}
 use Rattle.decimal.specs.Decimal.{decimal_of}
 use Rattle.hexadecimal.specs.Hex.{digit, hex_of}
@@ -95,14 +88,3 @@ unfolding hexadecimal
 hexadecimal_in n =
     digit_in n 0x1000_0000 ⊕ digit_in n 0x100_0000 ⊕ digit_in n 0x10_0000 ⊕ digit_in n 0x1_0000
     ⊕ digit_in n 0x1000 ⊕ digit_in n 0x100 ⊕ digit_in n 0x10 ⊕ text_in (digit (n % 16) ∷ [])
-
--- ---- words of a table
-
-abbrev pub all_below : ℕ → List (List ℕ) → Bool
-all_below n [] = true
-all_below n (w ∷ ws) = cond (ltb (length w) n) (all_below n ws) false
-
-pub short : (n : ℕ) (ws : List (List ℕ)) → all_below (suc n) ws ≡ true → (k : ℕ) → length (get_or ws k []) < suc n
-short n [] h k = omega arith
-short n (w ∷ ws) h zero = ltb-true (length w) (suc n) (both (ltb (length w) (suc n)) (all_below (suc n) ws) h).0
-short n (w ∷ ws) h (suc k) = short n ws (both (ltb (length w) (suc n)) (all_below (suc n) ws) h).1 k

@@ -2,7 +2,7 @@
 // after what it wrote; where something does not fit, a place past the end.
 #![tactic(auto, unfolding(crate::specs::Page::text, crate::specs::Page::comma, crate::specs::Page::yes_no, crate::specs::Page::item, crate::specs::Page::flag, crate::specs::Page::known, crate::specs::Page::digits, crate::specs::Page::digit_from))]
 
-ghost use Rattle.std.specs.Prelude.{◌≡◌, ◌-◌, ◌≤◌, ◌<◌, length, take, drop};
+ghost use Rattle.std.specs.Prelude.{◌≡◌, ◌<◌, take};
 ghost use Rattle.replay_page.specs.Page.{page, text, number, bytes, yes_no, comma, item, flag, known, digits, digit_from, hexadecimal};
 
 pub fn put_text(out: &mut [u8], at: usize, src: &[u8]) -> usize
@@ -16,14 +16,6 @@ pub fn put_text(out: &mut [u8], at: usize, src: &[u8]) -> usize
     }
     arrays::put(out, at, src);
     at + src.len()
-}
-
-// A part of a text.
-pub fn put_part(out: &mut [u8], at: usize, src: &[u8], from: usize, to: usize) -> usize
-    requires { (from ≤ to) × (to ≤ length src.now) }
-    ensures { page out.new result ≡ text (take (to - from) (drop from src.now)) (page out.old at) }
-{
-    put_text(out, at, &src[from..to])
 }
 
 // A number in decimal.

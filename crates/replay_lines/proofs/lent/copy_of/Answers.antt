@@ -1,5 +1,4 @@
-use mathlib.Core.Path.{sym}
-use native.Mathlib.Nat.{zero-add}
+use Rattle.std.proofs.Common.{sym, zero-add}
 use Rattle.replay_page.proofs.Laws.{front}
 use Rattle.replay_lines.proofs.lent.copy_of.Goals as goal
 

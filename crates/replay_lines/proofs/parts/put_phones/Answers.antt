@@ -1,9 +1,4 @@
-use mathlib.Core.Path.{◌≡◌, refl, ap, ◌∙◌}
-use mathlib.Core.List.{List}
-use Prim.Native.Nat.{ℕ}
-use native.Mathlib.Omega.{arith}
-use borrow.Author.Rules.{rules}
-use lib.ListN.{length}
+use Rattle.std.proofs.Common.{◌≡◌, ℕ, ◌-◌, min, get_or, List, length, refl, ap, ◌∙◌, arith, rules}
 use Rattle.phones.specs.Phones.{phones_of}
 use Rattle.phones.proofs.Walk.{walk_none, walk_here, walk_on}
 use Rattle.replay_page.specs.Page.{page}
@@ -12,30 +7,30 @@ use Rattle.replay_lines.proofs.Laws.{ids_again, ids_end}
 use Rattle.replay_lines.proofs.parts.put_phones.Goals as goal
 
 pub loop-i-init : goal.loop-i-init
-unfolding phones_of
 loop-i-init c =
     let far : length c.args.l.lens ≡ 32 = search rules in
-    (walk_none _ _ _ _ far c.clamp-n.ensures, refl, refl)
+    record { walk = walk_none _ _ _ _ far c.clamp-i-end.ensures; left = refl }
 
 pub loop-i-preserved : goal.loop-i-preserved
-unfolding phones_of
 loop-i-preserved c =
     let a = c.args in
-    let loop = c.loop-i in
-    let cut = c.part.ensures in
+    let l = c.loop-i in
     let put = c.put_phone_at-k in
-    let is = walk_here _ _ _ _ _ _ _ loop.invariant.0 (omega arith) cut.0 in
-    let many = loop.invariant.0.many in
-    let printed = put.ensures ∙ ap (λ (x : List ℕ). id_at loop.i x (page loop.out loop.k)) is in (
-      walk_on _ _ _ _ _ _ _ loop.invariant.0 (omega arith) cut.0,
-      put.auto.out ∙ loop.invariant.1,
-      ids_again _ loop.i (page a.out.now a.at) (page loop.out loop.k) loop.invariant.2 (page put.new.out put.result) (omega arith) printed,
-    )
+    let walk = l.invariant.walk in
+    let many = walk.many in
+    let far : length a.l.bytes ≡ 1024 = search rules in
+    let cut : c.part.result ≡ min (get_or a.l.lens l.i 0) (length a.l.bytes - l.from) = rw far c.part.ensures.0 in
+    let here = walk_here _ _ _ _ _ _ _ walk (omega arith) cut in
+    let printed = put.ensures ∙ ap (λ (x : List ℕ). id_at l.i x (page l.out l.k)) here in
+    record {
+      walk = walk_on _ _ _ _ _ _ _ walk (omega arith) cut;
+      left = ids_again _ l.i (page a.out.now a.at) (page l.out l.k) l.invariant.left (page put.new.out put.result) (omega arith) printed;
+    }
 
 pub returns : goal.returns
 unfolding phones_of
 returns c =
-    let loop = c.loop-i in
     let a = c.args in
-    let many = loop.invariant.0.many in
-    ids_end _ loop.i (page a.out.now a.at) (page loop.out loop.k) loop.invariant.2 (omega arith)
+    let l = c.loop-i in
+    let many = l.invariant.walk.many in
+    ids_end _ l.i (page a.out.now a.at) (page l.out l.k) l.invariant.left (omega arith)
