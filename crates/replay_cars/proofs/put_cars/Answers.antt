@@ -1,7 +1,4 @@
-use mathlib.Core.Path.{◌≡◌, refl, sym, ◌∙◌}
-use native.Mathlib.Omega.{arith}
-use borrow.Author.Rules.{rules}
-use lib.ListN.{length}
+use Rattle.std.proofs.Common.{◌≡◌, ◌≤◌, length, sym, ◌∙◌, arith, rules}
 use Rattle.arrays.proofs.Laws.{long_map}
 use Rattle.saved_record.proofs.Laws.{used, used_clamped, used_length}
 use Rattle.replay_page.specs.Page.{page}
@@ -17,28 +14,22 @@ returns-then-n-eq0 c =
     c.put_no_car.ensures
     ∙ rw (← used_clamped a.s n.result far n.ensures) (no_cars (used n.result a.s.cars) (page a.out.now a.at) (many ∙ c.if-n-eq0.true))
 
-pub loop-i-init : goal.loop-i-init
-loop-i-init c =
-    let far : length c.args.s.cars ≡ 4 = search (rules, long_map) in
-    (omega arith, far, refl, refl)
-
 pub loop-i-preserved : goal.loop-i-preserved
 loop-i-preserved c =
     let a = c.args in
     let n = c.clamp_cars-n.result in
-    let loop = c.loop-i in
-    let put = c.put_car-k in (
-      loop.invariant.0,
-      loop.invariant.1,
-      put.auto.out ∙ loop.invariant.2,
-      cars_again n a.s.cars loop.invariant.0 loop.i (page a.out.now a.at) (page loop.out loop.k) loop.invariant.3 (page put.new.out put.result) c.loop-i-test.true put.ensures,
-    )
+    let l = c.loop-i in
+    let put = c.put_car-k in
+    let far : length a.s.cars ≡ 4 = search (rules, long_map) in
+    cars_again n a.s.cars (omega arith) l.i (page a.out.now a.at) (page l.out l.k) l.invariant (page put.new.out put.result) c.loop-i-test.true put.ensures
 
 pub returns : goal.returns
 returns c =
     let a = c.args in
     let n = c.clamp_cars-n in
-    let loop = c.loop-i in
-    let many = used_length n.result a.s.cars loop.invariant.0 in
-    cars_end n.result a.s.cars loop.invariant.0 loop.i (page a.out.now a.at) (page loop.out loop.k) loop.invariant.3 c.loop-i-test.false
-    ∙ rw (← used_clamped a.s n.result loop.invariant.1 n.ensures) (some_cars (used n.result a.s.cars) (page a.out.now a.at) (λ z. c.if-n-eq0.false (sym many ∙ z)))
+    let l = c.loop-i in
+    let far : length a.s.cars ≡ 4 = search (rules, long_map) in
+    let fits : n.result ≤ length a.s.cars = omega arith in
+    let many = used_length n.result a.s.cars fits in
+    cars_end n.result a.s.cars fits l.i (page a.out.now a.at) (page l.out l.k) l.invariant c.loop-i-test.false
+    ∙ rw (← used_clamped a.s n.result far n.ensures) (some_cars (used n.result a.s.cars) (page a.out.now a.at) (λ z. c.if-n-eq0.false (sym many ∙ z)))
