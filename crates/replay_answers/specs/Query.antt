@@ -1,5 +1,5 @@
 -- How the answers of queries are shown that hold more than an answer. Nothing stands behind a refusal or none, but for previews.
-use Rattle.std.specs.Prelude.{Bool, true, false, cond, List, ℕ, zero, suc, ltb, length, get_or, take}
+use Rattle.std.specs.Prelude.{Bool, true, false, cond, Option, Some, None, List, ℕ, zero, suc, ltb, length, get_or, take}
 use Rattle.ascii.specs.Ascii.{ascii}
 use Rattle.policy.specs.declared.Approval.{Approval}
 use Rattle.policy.specs.declared.Approval.TheVariants.{NotApproved, AwaitingCar, Approved, OtherCar}
@@ -9,6 +9,7 @@ use Rattle.phones.specs.Phones.{id_bytes, phones_of}
 use Rattle.saved_record.specs.Store.{cars_of}
 use Rattle.state.specs.Running.{past_methods}
 use Rattle.state.specs.declared.Answer.{Answer}
+use Rattle.state.specs.declared.SessionReply.{SessionReply}
 use Rattle.answers.specs.declared.AccessAnswer.{AccessAnswer}
 use Rattle.answers.specs.declared.ApprovalAnswer.{ApprovalAnswer}
 use Rattle.answers.specs.declared.ChallengeAnswer.{ChallengeAnswer}
@@ -25,8 +26,6 @@ use Rattle.replay_lines.specs.Answer.{held_by, is_out_of_range, reply, answer}
 use Rattle.replay_cars.specs.Cars.{lists}
 use Rattle.replay_page.specs.Page.{Page, ◌▸◌, text, bytes, digits, comma, item, flag, word}
 use Rattle.replay_lines.specs.Parts.{ids_from, method}
-use Rattle.replay_answers.specs.declared.Seen.{Seen}
-use Rattle.replay_answers.specs.declared.Seen.TheVariants.{Missing, Shown}
 
 -- whether an answer is Done
 abbrev pub is_fine : Held → Bool
@@ -76,20 +75,20 @@ unfoldable pub peer : PeerAnswer → Page → Page
 peer a = told a.answer (λ p. p ▸ text (ascii " peer=") ▸ bytes (id_bytes a.peer) ▸ flag (ascii " validated=") a.validated)
 
 -- the session of a phone, or none
-abbrev pub seen_in : Held → Seen
-seen_in Fine = Missing
-seen_in Blank = Missing
-seen_in (Item k n) = Missing
-seen_in (Part n end) = Missing
-seen_in (Reply r) = Shown r
-seen_in (Wrong r) = Missing
+abbrev pub seen_in : Held → Option SessionReply
+seen_in Fine = None
+seen_in Blank = None
+seen_in (Item k n) = None
+seen_in (Part n end) = None
+seen_in (Reply r) = Some r
+seen_in (Wrong r) = None
 
-abbrev pub seen : Answer → Seen
+abbrev pub seen : Answer → Option SessionReply
 seen a = seen_in (held_by a)
 
-abbrev pub shown : Seen → Page → Page
-shown Missing p = word (ascii " session=") (ascii "none") p
-shown (Shown r) p = reply r p
+abbrev pub shown : Option SessionReply → Page → Page
+shown None p = word (ascii " session=") (ascii "none") p
+shown (Some r) p = reply r p
 
 unfoldable pub phone_access : PhoneAccessAnswer → Page → Page
 phone_access a =

@@ -1,9 +1,9 @@
 // The answers of queries that hold more than an answer. Nothing stands behind a refusal or none, but for previews.
-#![tactic(auto)]
+#![tactic(auto, unfolding(replay_lines::specs::Fields::put_fields, replay_page::specs::Page::item, replay_page::specs::Page::flag, replay_page::specs::Page::word, replay_page::specs::Page::known, phones::specs::Phones::id_bytes, crate::specs::Query::told, crate::specs::Query::approval, crate::specs::Query::access, crate::specs::Query::phones_listed, crate::specs::Query::trust, crate::specs::Query::peer, crate::specs::Query::phone_access, crate::specs::Query::method_at, crate::specs::Query::methods, crate::specs::Query::challenge, crate::specs::Query::encoded, crate::specs::Query::preview))]
 
-ghost use Rattle.std.specs.Prelude.{◌≡◌, [], ◌<◌, get_or};
+ghost use Rattle.std.specs.Prelude.{◌≡◌, ◌<◌};
 ghost use Rattle.replay_page.specs.Page.{page};
-ghost use Rattle.replay_lines.specs.Table.{words};
+ghost use Rattle.replay_lines.specs.Table.{word_text};
 ghost use Rattle.replay_lines.specs.Fields.{put_fields};
 ghost use Rattle.replay_answers.specs.Query.{is_done, approval_name, trust_name, told, approval, access, phones_listed, trust, peer, seen, shown, phone_access, method_at, methods_to, methods, challenge, encoded, preview};
 
@@ -13,215 +13,139 @@ use answers::{
 };
 use phone_trust::Trust;
 use policy::Approval;
-use replay_lines::answer::Held;
-use replay_lines::fields::Field;
-use replay_lines::{key, word};
+use replay_lines::answer::{Held, Shown, is_out_of_range, put_answer, put_reply, shown_by};
+use replay_lines::fields::{Field, put_field, put_fields};
+use replay_lines::key::Key;
+use replay_lines::word::Word;
 use state::{Answer, SessionReply};
-
-// The session of a phone, or none.
-#[derive(Clone, Copy)]
-pub enum Seen {
-    Missing,
-    Shown(SessionReply),
-}
 
 pub fn is_done(a: Answer) -> bool
     ensures { result ≡ is_done a }
 {
-    let s = replay_lines::answer::shown_by(a);
-    let h = s.1;
-    match h {
-        Held::Fine => true,
-        Held::Blank => false,
-        Held::Item(_, _) => false,
-        Held::Part(_, _) => false,
-        Held::Reply(_) => false,
-        Held::Wrong(_) => false,
-    }
+    let Shown(_, held) = shown_by(a);
+    matches!(held, Held::Fine)
 }
 
-#[tactic(auto, unfolding(replay_lines::specs::Table::word_names, replay_lines::specs::Table::words))]
-fn approval_word(a: Approval) -> usize
-    ensures { get_or words result [] ≡ approval_name a }
+fn approval_word(a: Approval) -> Word
+    ensures { word_text result ≡ approval_name a }
 {
     match a {
-        Approval::NotApproved => word::NOT_APPROVED,
-        Approval::AwaitingCar => word::AWAITING_CAR,
-        Approval::Approved => word::APPROVED,
-        Approval::OtherCar => word::OTHER_CAR,
+        Approval::NotApproved => Word::NotApproved,
+        Approval::AwaitingCar => Word::AwaitingCar,
+        Approval::Approved => Word::Approved,
+        Approval::OtherCar => Word::OtherCar,
     }
 }
 
-#[tactic(auto, unfolding(replay_lines::specs::Table::word_names, replay_lines::specs::Table::words))]
-fn trust_word(t: Trust) -> usize
-    ensures { get_or words result [] ≡ trust_name t }
+fn trust_word(t: Trust) -> Word
+    ensures { word_text result ≡ trust_name t }
 {
     match t {
-        Trust::NotBonded => word::NOT_BONDED,
-        Trust::Bonded => word::BONDED,
-        Trust::Validated => word::VALIDATED,
+        Trust::NotBonded => Word::NotBonded,
+        Trust::Bonded => Word::Bonded,
+        Trust::Validated => Word::Validated,
     }
 }
 
 // The answer, and the fields behind it if it is Done.
-pub fn put_told(out: &mut [u8], at: usize, a: Answer, lent: &[u8], fields: [Field; 8]) -> usize
-    ensures { page out.new result ≡ told a (put_fields lent.now fields) (page out.old at) }
+pub fn put_told(out: &mut [u8], at: usize, a: Answer, lent: &[u8], fields: &[Field]) -> usize
+    ensures { page out.new result ≡ told a (put_fields lent.now fields.now) (page out.old at) }
 {
-    let k = replay_lines::answer::put_answer(out, at, a);
+    let k = put_answer(out, at, a);
     if is_done(a) {
-        return replay_lines::fields::put_fields(out, k, lent, fields);
+        put_fields(out, k, lent, fields)
+    } else {
+        k
     }
-    k
 }
 
 pub fn put_approval(out: &mut [u8], at: usize, a: ApprovalAnswer) -> usize
     ensures { page out.new result ≡ approval a (page out.old at) }
 {
-    let what = a.approval;
-    let w = approval_word(what);
-    let fields = [
-        Field::Word(key::APPROVAL, w),
-        Field::Nothing,
-        Field::Nothing,
-        Field::Nothing,
-        Field::Nothing,
-        Field::Nothing,
-        Field::Nothing,
-        Field::Nothing,
-    ];
-    let answer = a.answer;
-    put_told(out, at, answer, b"", fields)
+    let fields = [Field::Word(Key::Approval, approval_word(a.approval))];
+    put_told(out, at, a.answer, b"", &fields)
 }
 
 pub fn put_access(out: &mut [u8], at: usize, a: AccessAnswer) -> usize
     ensures { page out.new result ≡ access a (page out.old at) }
 {
-    let what = a.approval;
-    let w = approval_word(what);
     let fields = [
-        Field::Flag(key::PLATFORM, a.platform),
-        Field::Flag(key::CAR, a.car),
-        Field::Word(key::APPROVAL, w),
-        Field::Flag(key::DEV_LOCK, a.devlock),
-        Field::Flag(key::DEV_UNLOCKED, a.unlocked),
-        Field::Flag(key::LOGGING, a.logging),
-        Field::Flag(key::READ_ONLY, a.readonly),
-        Field::Nothing,
+        Field::Flag(Key::Platform, a.platform),
+        Field::Flag(Key::Car, a.car),
+        Field::Word(Key::Approval, approval_word(a.approval)),
+        Field::Flag(Key::DevLock, a.devlock),
+        Field::Flag(Key::DevUnlocked, a.unlocked),
+        Field::Flag(Key::Logging, a.logging),
+        Field::Flag(Key::ReadOnly, a.readonly),
     ];
-    let answer = a.answer;
-    put_told(out, at, answer, b"", fields)
+    put_told(out, at, a.answer, b"", &fields)
 }
 
 pub fn put_phones_listed(out: &mut [u8], at: usize, a: PhonesAnswer) -> usize
     ensures { page out.new result ≡ phones_listed a (page out.old at) }
 {
-    let list = a.phones;
-    let n = phones::count(list);
     let fields = [
-        Field::Number(key::COUNT, n as u64),
-        Field::Key(key::PHONES),
-        Field::Nothing,
-        Field::Nothing,
-        Field::Nothing,
-        Field::Nothing,
-        Field::Nothing,
-        Field::Nothing,
+        Field::Number(Key::Count, phones::count(a.phones) as u64),
+        Field::Key(Key::Phones),
     ];
-    let answer = a.answer;
-    let k = put_told(out, at, answer, b"", fields);
-    if is_done(answer) {
-        return replay_lines::parts::put_phones(out, k, list);
+    let k = put_told(out, at, a.answer, b"", &fields);
+    if is_done(a.answer) {
+        replay_lines::parts::put_phones(out, k, a.phones)
+    } else {
+        k
     }
-    k
 }
 
 pub fn put_trust(out: &mut [u8], at: usize, a: TrustAnswer) -> usize
     ensures { page out.new result ≡ trust a (page out.old at) }
 {
-    let what = a.trust;
-    let w = trust_word(what);
-    let fields = [
-        Field::Word(key::TRUST, w),
-        Field::Nothing,
-        Field::Nothing,
-        Field::Nothing,
-        Field::Nothing,
-        Field::Nothing,
-        Field::Nothing,
-        Field::Nothing,
-    ];
-    let answer = a.answer;
-    put_told(out, at, answer, b"", fields)
+    let fields = [Field::Word(Key::Trust, trust_word(a.trust))];
+    put_told(out, at, a.answer, b"", &fields)
 }
 
 pub fn put_peer(out: &mut [u8], at: usize, a: PeerAnswer) -> usize
     ensures { page out.new result ≡ peer a (page out.old at) }
 {
-    let id = a.peer.bytes;
     let fields = [
-        Field::Bytes(key::PEER, a.peer.len),
-        Field::Flag(key::VALIDATED, a.validated),
-        Field::Nothing,
-        Field::Nothing,
-        Field::Nothing,
-        Field::Nothing,
-        Field::Nothing,
-        Field::Nothing,
+        Field::Bytes(Key::Peer, a.peer.len),
+        Field::Flag(Key::Validated, a.validated),
     ];
-    let answer = a.answer;
-    put_told(out, at, answer, &id, fields)
+    put_told(out, at, a.answer, &a.peer.bytes, &fields)
 }
 
-fn seen_in(a: Answer) -> Seen
+// The session of a phone, or none.
+fn seen_in(a: Answer) -> Option<SessionReply>
     ensures { result ≡ seen a }
 {
-    let s = replay_lines::answer::shown_by(a);
-    let h = s.1;
-    match h {
-        Held::Fine => Seen::Missing,
-        Held::Blank => Seen::Missing,
-        Held::Item(_, _) => Seen::Missing,
-        Held::Part(_, _) => Seen::Missing,
-        Held::Reply(r) => Seen::Shown(r),
-        Held::Wrong(_) => Seen::Missing,
+    let Shown(_, held) = shown_by(a);
+    match held {
+        Held::Reply(r) => Some(r),
+        _ => None,
     }
 }
 
-#[tactic(auto, unfolding(replay_lines::specs::Table::key_names, replay_lines::specs::Table::keys, replay_lines::specs::Table::word_names, replay_lines::specs::Table::words))]
-fn put_seen(out: &mut [u8], at: usize, s: Seen) -> usize
+fn put_seen(out: &mut [u8], at: usize, s: Option<SessionReply>) -> usize
     ensures { page out.new result ≡ shown s (page out.old at) }
 {
     match s {
-        Seen::Missing => {
-            replay_lines::fields::put_field(out, at, b"", Field::Word(key::SESSION, word::NONE))
-        }
-        Seen::Shown(r) => replay_lines::answer::put_reply(out, at, r),
+        None => put_field(out, at, b"", Field::Word(Key::Session, Word::None)),
+        Some(r) => put_reply(out, at, r),
     }
 }
 
 pub fn put_phone_access(out: &mut [u8], at: usize, a: PhoneAccessAnswer) -> usize
     ensures { page out.new result ≡ phone_access a (page out.old at) }
 {
-    let what = a.trust;
-    let w = trust_word(what);
     let fields = [
-        Field::Word(key::TRUST, w),
-        Field::Flag(key::CAR_HAS_VALIDATED, a.car_has_validated),
-        Field::Nothing,
-        Field::Nothing,
-        Field::Nothing,
-        Field::Nothing,
-        Field::Nothing,
-        Field::Nothing,
+        Field::Word(Key::Trust, trust_word(a.trust)),
+        Field::Flag(Key::CarHasValidated, a.car_has_validated),
     ];
-    let answer = a.answer;
-    let k = put_told(out, at, answer, b"", fields);
-    if is_done(answer) {
-        let session = a.session;
-        let s = seen_in(session);
-        return put_seen(out, k, s);
+    let k = put_told(out, at, a.answer, b"", &fields);
+    if is_done(a.answer) {
+        put_seen(out, k, seen_in(a.session))
+    } else {
+        k
     }
-    k
 }
 
 // The method at a place, if there is one.
@@ -231,22 +155,19 @@ fn put_method_at(out: &mut [u8], at: usize, a: MethodsAnswer, i: usize) -> usize
 {
     if i < a.count {
         let k = replay_page::put_comma(out, at, i);
-        let m = a.list[i];
-        let k = replay_lines::parts::put_method(out, k, m);
-        let on = a.available[i];
-        return replay_page::put_flag(out, k, b"/", on);
+        let k = replay_lines::parts::put_method(out, k, a.list[i]);
+        replay_page::put_flag(out, k, b"/", a.available[i])
+    } else {
+        at
     }
-    at
 }
 
 fn put_method_list(out: &mut [u8], at: usize, a: MethodsAnswer) -> usize
     ensures { page out.new result ≡ methods_to a 8 (page out.old at) }
 {
     let mut k = at;
-    let mut i = 0;
-    while i < 8 {
+    for i in 0..8 {
         k = put_method_at(out, k, a, i);
-        i += 1;
     }
     k
 }
@@ -255,71 +176,43 @@ pub fn put_methods(out: &mut [u8], at: usize, a: MethodsAnswer) -> usize
     ensures { page out.new result ≡ methods a (page out.old at) }
 {
     let fields = [
-        Field::Number(key::COUNT, a.count as u64),
-        Field::Key(key::METHODS),
-        Field::Nothing,
-        Field::Nothing,
-        Field::Nothing,
-        Field::Nothing,
-        Field::Nothing,
-        Field::Nothing,
+        Field::Number(Key::Count, a.count as u64),
+        Field::Key(Key::Methods),
     ];
-    let answer = a.answer;
-    let k = put_told(out, at, answer, b"", fields);
-    if is_done(answer) {
-        return put_method_list(out, k, a);
+    let k = put_told(out, at, a.answer, b"", &fields);
+    if is_done(a.answer) {
+        put_method_list(out, k, a)
+    } else {
+        k
     }
-    k
 }
 
 pub fn put_challenge(out: &mut [u8], at: usize, a: ChallengeAnswer) -> usize
     ensures { page out.new result ≡ challenge a (page out.old at) }
 {
-    let code = a.challenge.code;
     let fields = [
-        Field::Number(key::SESSION, a.challenge.session as u64),
-        Field::Number(key::METHOD, a.challenge.method as u64),
-        Field::Digits(key::CODE, a.challenge.length),
-        Field::Nothing,
-        Field::Nothing,
-        Field::Nothing,
-        Field::Nothing,
-        Field::Nothing,
+        Field::Number(Key::Session, a.challenge.session as u64),
+        Field::Number(Key::Method, a.challenge.method as u64),
+        Field::Digits(Key::Code, a.challenge.length),
     ];
-    let answer = a.answer;
-    put_told(out, at, answer, &code, fields)
+    put_told(out, at, a.answer, &a.challenge.code, &fields)
 }
 
 pub fn put_encoded(out: &mut [u8], at: usize, a: RecordAnswer) -> usize
     ensures { page out.new result ≡ encoded a (page out.old at) }
 {
-    let stored = a.stored.bytes;
-    let fields = [
-        Field::Bytes(key::RECORD, a.stored.len),
-        Field::Nothing,
-        Field::Nothing,
-        Field::Nothing,
-        Field::Nothing,
-        Field::Nothing,
-        Field::Nothing,
-        Field::Nothing,
-    ];
-    let answer = a.answer;
-    put_told(out, at, answer, &stored, fields)
+    let fields = [Field::Bytes(Key::Record, a.stored.len)];
+    put_told(out, at, a.answer, &a.stored.bytes, &fields)
 }
 
 // Behind every answer but 25: what would be left.
 pub fn put_preview(out: &mut [u8], at: usize, a: PreviewAnswer) -> usize
     ensures { page out.new result ≡ preview a (page out.old at) }
 {
-    let answer = a.answer;
-    let k = replay_lines::answer::put_answer(out, at, answer);
-    if replay_lines::answer::is_out_of_range(answer) {
+    let k = put_answer(out, at, a.answer);
+    if is_out_of_range(a.answer) {
         return k;
     }
-    let paired = a.paired;
-    let store = a.store;
-    let k = replay_cars::put_lists(out, k, paired, store);
-    let bytes = Field::Number(key::RECORD_BYTES, a.bytes as u64);
-    replay_lines::fields::put_field(out, k, b"", bytes)
+    let k = replay_cars::put_lists(out, k, a.paired, a.store);
+    put_field(out, k, b"", Field::Number(Key::RecordBytes, a.bytes as u64))
 }

@@ -12,10 +12,9 @@ ghost use Rattle.replay_conversion.specs.Conversion.{conversion_name, conversion
 
 use converter::Conversion;
 use replay_lines::fields::Field;
-use replay_lines::key;
+use replay_lines::key::Key;
 
 // The place of an answer's name among the words.
-#[tactic(auto, unfolding(replay_lines::specs::Table::word_names, replay_lines::specs::Table::words))]
 fn conversion_word(c: Conversion) -> usize
     ensures { get_or words result [] ≡ conversion_name c }
 {
@@ -39,7 +38,7 @@ pub fn put_conversion(out: &mut [u8], at: usize, saved: &[u8], two: bool, lent: 
     let c = converter::convert_phone_validations(saved, two, &mut copy[..n]);
     let answer = c.answer;
     let word = conversion_word(answer);
-    let k = replay_lines::fields::put_field(out, at, b"", Field::Word(key::ANSWER, word));
-    let k = replay_lines::fields::put_field(out, k, b"", Field::Number(key::ROOM, c.room as u64));
+    let k = replay_lines::fields::put_field(out, at, b"", Field::Word(Key::Answer, word));
+    let k = replay_lines::fields::put_field(out, k, b"", Field::Number(Key::Room, c.room as u64));
     replay_lines::lent::put_output(out, k, &copy[..n])
 }

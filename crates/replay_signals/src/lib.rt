@@ -1,5 +1,5 @@
 // Signals.
-#![tactic(auto)]
+#![tactic(auto, unfolding(crate::specs::Signals::next, crate::specs::Signals::raised, crate::specs::Signals::read_only, crate::specs::Signals::approval, crate::specs::Signals::validations, crate::specs::Signals::running, crate::specs::Signals::challenge, crate::specs::Signals::ended, crate::specs::Signals::listed))]
 
 ghost use Rattle.std.specs.Prelude.{◌≡◌};
 ghost use Rattle.replay_page.specs.Page.{page};
@@ -13,10 +13,11 @@ use state::{
 fn put_next(out: &mut [u8], at: usize, from: usize, name: &[u8]) -> usize
     ensures { page out.new result ≡ next from name.now (page out.old at) }
 {
-    if at == from {
-        return replay_page::put_text(out, at, name);
-    }
-    let k = replay_page::put_text(out, at, b",");
+    let k = if at == from {
+        at
+    } else {
+        replay_page::put_text(out, at, b",")
+    };
     replay_page::put_text(out, k, name)
 }
 
@@ -24,47 +25,48 @@ fn put_raised(out: &mut [u8], at: usize, from: usize, sent: bool, name: &[u8]) -
     ensures { page out.new result ≡ raised from sent name.now (page out.old at) }
 {
     if sent {
-        return put_next(out, at, from, name);
+        put_next(out, at, from, name)
+    } else {
+        at
     }
-    at
 }
 
 fn put_read_only(out: &mut [u8], at: usize, from: usize, s: ReadOnlySignal) -> usize
     ensures { page out.new result ≡ read_only from s (page out.old at) }
 {
-    if s.sent {
-        let k = put_next(out, at, from, b"R:");
-        return replay_page::put_yes_no(out, k, s.value);
+    if !s.sent {
+        return at;
     }
-    at
+    let k = put_next(out, at, from, b"R:");
+    replay_page::put_yes_no(out, k, s.value)
 }
 
 fn put_approval(out: &mut [u8], at: usize, from: usize, s: ApprovalSignal) -> usize
     ensures { page out.new result ≡ approval from s (page out.old at) }
 {
-    if s.sent {
-        let k = put_next(out, at, from, b"P:");
-        if s.car.known {
-            let digest = s.car.digest;
-            return replay_page::put_bytes(out, k, &digest);
-        }
-        return replay_page::put_text(out, k, b"erase");
+    if !s.sent {
+        return at;
     }
-    at
+    let k = put_next(out, at, from, b"P:");
+    if s.car.known {
+        replay_page::put_bytes(out, k, &s.car.digest)
+    } else {
+        replay_page::put_text(out, k, b"erase")
+    }
 }
 
 fn put_validations(out: &mut [u8], at: usize, from: usize, s: ValidationsSignal) -> usize
     ensures { page out.new result ≡ validations from s (page out.old at) }
 {
-    if s.sent {
-        let k = put_next(out, at, from, b"S:");
-        if s.stored.len == 0 {
-            return replay_page::put_text(out, k, b"erase");
-        }
-        let stored = s.stored;
-        return replay_lines::parts::put_saved(out, k, stored);
+    if !s.sent {
+        return at;
     }
-    at
+    let k = put_next(out, at, from, b"S:");
+    if s.stored.len == 0 {
+        replay_page::put_text(out, k, b"erase")
+    } else {
+        replay_lines::parts::put_saved(out, k, s.stored)
+    }
 }
 
 // SESSION/PLACE/CODE
@@ -74,22 +76,21 @@ fn put_running(out: &mut [u8], at: usize, c: Challenge) -> usize
     let k = replay_page::put_number(out, at, c.session as u64);
     let k = replay_page::put_item(out, k, b"/", c.method as u64);
     let k = replay_page::put_text(out, k, b"/");
-    let code = c.code;
-    replay_page::put_digits(out, k, &code, c.length)
+    replay_page::put_digits(out, k, &c.code, c.length)
 }
 
 fn put_challenge(out: &mut [u8], at: usize, from: usize, s: ChallengeSignal) -> usize
     ensures { page out.new result ≡ challenge from s (page out.old at) }
 {
-    if s.sent {
-        let k = put_next(out, at, from, b"C:");
-        if s.challenge.running {
-            let c = s.challenge;
-            return put_running(out, k, c);
-        }
-        return replay_page::put_text(out, k, b"none");
+    if !s.sent {
+        return at;
     }
-    at
+    let k = put_next(out, at, from, b"C:");
+    if s.challenge.running {
+        put_running(out, k, s.challenge)
+    } else {
+        replay_page::put_text(out, k, b"none")
+    }
 }
 
 // A list that is empty.
@@ -97,9 +98,10 @@ fn put_end(out: &mut [u8], at: usize, from: usize) -> usize
     ensures { page out.new result ≡ ended from (page out.old at) }
 {
     if at == from {
-        return replay_page::put_text(out, at, b"none");
+        replay_page::put_text(out, at, b"none")
+    } else {
+        at
     }
-    at
 }
 
 // The list, which begins at `from`.
@@ -108,14 +110,10 @@ fn put_listed(out: &mut [u8], at: usize, from: usize, s: Signals) -> usize
 {
     let k = put_raised(out, at, from, s.access, b"A");
     let k = put_raised(out, k, from, s.availability, b"V");
-    let r = s.readonly;
-    let k = put_read_only(out, k, from, r);
-    let p = s.approval;
-    let k = put_approval(out, k, from, p);
-    let v = s.validations;
-    let k = put_validations(out, k, from, v);
-    let c = s.challenge;
-    let k = put_challenge(out, k, from, c);
+    let k = put_read_only(out, k, from, s.readonly);
+    let k = put_approval(out, k, from, s.approval);
+    let k = put_validations(out, k, from, s.validations);
+    let k = put_challenge(out, k, from, s.challenge);
     put_end(out, k, from)
 }
 

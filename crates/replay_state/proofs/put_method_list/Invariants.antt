@@ -1,12 +1,7 @@
-use mathlib.Core.Path.{◌≡◌}
-use Prim.Native.Nat.{◌≤◌, ◌-◌}
-use lib.ListN.{length}
+use Rattle.std.proofs.Common.{◌≡◌}
 use Rattle.replay_page.specs.Page.{page}
 use Rattle.replay_state.specs.Whole.{methods_to}
 use Rattle.replay_state.proofs.put_method_list.Given as goal
 
 abbrev pub invariant-loop-i : goal.invariant-loop-i
-invariant-loop-i l = (l.i ≤ 8) × (length l.out ≡ length l.initial.out) × (page l.out l.k ≡ methods_to l.m l.i (page l.initial.out l.at))
-
-abbrev pub decreases-loop-i : goal.decreases-loop-i
-decreases-loop-i l = 8 - l.i
+invariant-loop-i l = page l.out l.k ≡ methods_to l.m l.i (page l.initial.out l.at)

@@ -1,9 +1,0 @@
--- The fields of the array are those of the definition, which antt computes.
-use Rattle.replay_lines.specs.Table.{keys, key_names}
-use Rattle.replay_lines.specs.Fields.{put_fields}
-use Rattle.replay_answers.specs.Query.{access}
-use Rattle.replay_answers.proofs.put_access.Goals as goal
-
-pub returns : goal.returns
-unfolding access key_names keys put_fields
-returns c = rw (← c.approval_word-w.ensures) c.put_told.ensures
