@@ -58,7 +58,7 @@ fn put_phones(dst: &mut [u8], at: usize, saved: &[u8], from: usize, count: usize
         end: at,
         next: from,
     };
-    for i in 0..count {
+    for _ in 0..count {
         let Ok(Field { start, len, next }) = reader::field_at(saved, places.next) else {
             break;
         };

@@ -4,239 +4,261 @@
 #![tactic(auto)]
 
 ghost use Rattle.std.specs.Prelude.{◌≡◌};
-ghost use Rattle.list_cases.specs.Records.{written, with_byte, with_run, with_digest, with_head, with_cars, with_phone, with_phones, with_car};
+ghost use Rattle.list_cases.specs.Records.{with_byte, with_run, with_digest, with_head, with_cars, with_phone, with_phones, with_car};
 
-use saved_record::RecordVerdict;
+use listing::Listing;
+use saved_record::RecordError;
 use std::io;
 
-// Each `put_` function answers the place after what it wrote; past the end of `dst` nothing is written.
+// A record that is being made. No heap: its bytes stand in an array, and `at` is the place after what was written last.
+#[derive(Clone, Copy)]
+struct Draft {
+    bytes: [u8; 8193],
+    at: usize,
+}
 
-fn put_byte(dst: &mut [u8], at: usize, b: u8) -> usize
-    ensures { written dst.new result ≡ with_byte b (written dst.old at) }
-{
-    if at < dst.len() {
-        dst[at] = b;
-        return at + 1;
+impl Draft {
+    fn new() -> Draft {
+        Draft {
+            bytes: [0; 8193],
+            at: 0,
+        }
     }
-    at
-}
 
-// `n` bytes, the first one `first` and each `step` more than the one before, 0 after 255.
-fn put_run(dst: &mut [u8], at: usize, first: u8, step: u8, n: u8) -> usize
-    ensures { written dst.new result ≡ with_run first step n (written dst.old at) }
-{
-    let mut end = at;
-    let mut b = first;
-    let mut left = n;
-    while 0 < left {
-        end = put_byte(&mut *dst, end, b);
-        b = std::num::wrapping_add_u8(b, step);
-        left -= 1;
+    // Past the end nothing is written.
+    #[tactic(auto, unfolding(crate::specs::Records::with_byte))]
+    fn put_byte(&mut self, b: u8)
+        ensures { self.new ≡ with_byte b self.old }
+    {
+        if self.at < self.bytes.len() {
+            self.bytes[self.at] = b;
+            self.at += 1;
+        }
     }
-    end
-}
 
-// 32 times `digest`, and the count.
-fn put_digest(dst: &mut [u8], at: usize, digest: u8, count: u8) -> usize
-    ensures { written dst.new result ≡ with_digest digest count (written dst.old at) }
-{
-    let end = put_run(&mut *dst, at, digest, 0, 32);
-    put_byte(&mut *dst, end, count)
-}
-
-// Version 1, 32 times 0x11, and the count.
-fn put_head(dst: &mut [u8], count: u8) -> usize
-    ensures { written dst.new result ≡ with_head count dst.old }
-{
-    let from = put_byte(&mut *dst, 0, 1);
-    put_digest(&mut *dst, from, 0x11, count)
-}
-
-// Version 2, and the number of cars.
-fn put_cars(dst: &mut [u8], n: u8) -> usize
-    ensures { written dst.new result ≡ with_cars n dst.old }
-{
-    let from = put_byte(&mut *dst, 0, 2);
-    put_byte(&mut *dst, from, n)
-}
-
-fn put_phone(dst: &mut [u8], at: usize, first: u8, len: u8) -> usize
-    ensures { written dst.new result ≡ with_phone first len (written dst.old at) }
-{
-    let from = put_byte(&mut *dst, at, len);
-    put_run(&mut *dst, from, first, 1, len)
-}
-
-// `n` phones of `len` bytes; the first byte of each is its place.
-fn put_phones(dst: &mut [u8], at: usize, n: u8, len: u8) -> usize
-    ensures { written dst.new result ≡ with_phones n len (written dst.old at) }
-{
-    let mut end = at;
-    let mut i = 0;
-    while i < n {
-        end = put_phone(&mut *dst, end, i, len);
-        i += 1;
+    // `n` bytes, the first one `first` and each `step` more than the one before, 0 after 255.
+    fn put_run(&mut self, first: u8, step: u8, n: u8)
+        ensures { self.new ≡ with_run first step n self.old }
+    {
+        let mut b = first;
+        for _ in 0..n {
+            self.put_byte(b);
+            b = b.wrapping_add(step);
+        }
     }
-    end
-}
 
-// A car of version 2 with `n` phones of `len` bytes.
-fn put_car(dst: &mut [u8], at: usize, digest: u8, n: u8, len: u8) -> usize
-    ensures { written dst.new result ≡ with_car digest n len (written dst.old at) }
-{
-    let from = put_digest(&mut *dst, at, digest, n);
-    put_phones(&mut *dst, from, n, len)
-}
+    // 32 times `digest`, and the count.
+    #[tactic(auto, unfolding(crate::specs::Records::with_digest))]
+    fn put_digest(&mut self, digest: u8, count: u8)
+        ensures { self.new ≡ with_digest digest count self.old }
+    {
+        self.put_run(digest, 0, 32);
+        self.put_byte(count);
+    }
 
-fn show_number(out: &impl Print, input: &[u8]) -> io::Result<()> {
-    let read = decode_record::decode_phone_validations(input);
-    let answer = read.answer;
-    match answer {
-        RecordVerdict::Restored => out.println("number=0"),
-        RecordVerdict::Malformed => out.println("number=22"),
-        RecordVerdict::CarTwice => out.println("number=28"),
-        RecordVerdict::TooLarge => out.println("number=23"),
+    // From the front: version 1, 32 times 0x11, and the count.
+    #[tactic(auto, unfolding(crate::specs::Records::with_head))]
+    fn put_head(&mut self, count: u8)
+        ensures { self.new ≡ with_head count self.old }
+    {
+        self.at = 0;
+        self.put_byte(1);
+        self.put_digest(0x11, count);
+    }
+
+    // From the front: version 2, and the number of cars.
+    #[tactic(auto, unfolding(crate::specs::Records::with_cars))]
+    fn put_cars(&mut self, n: u8)
+        ensures { self.new ≡ with_cars n self.old }
+    {
+        self.at = 0;
+        self.put_byte(2);
+        self.put_byte(n);
+    }
+
+    #[tactic(auto, unfolding(crate::specs::Records::with_phone))]
+    fn put_phone(&mut self, first: u8, len: u8)
+        ensures { self.new ≡ with_phone first len self.old }
+    {
+        self.put_byte(len);
+        self.put_run(first, 1, len);
+    }
+
+    // `n` phones of `len` bytes; the first byte of each is its place.
+    fn put_phones(&mut self, n: u8, len: u8)
+        ensures { self.new ≡ with_phones n len self.old }
+    {
+        for i in 0..n {
+            self.put_phone(i, len);
+        }
+    }
+
+    // A car of version 2 with `n` phones of `len` bytes.
+    #[tactic(auto, unfolding(crate::specs::Records::with_car))]
+    fn put_car(&mut self, digest: u8, n: u8, len: u8)
+        ensures { self.new ≡ with_car digest n len self.old }
+    {
+        self.put_digest(digest, n);
+        self.put_phones(n, len);
+    }
+
+    // Shows the first `n` bytes.
+    fn show(&self, out: &impl Print, name: &str, n: usize) -> io::Result<()> {
+        match self.bytes.get(..n) {
+            Some(record) => show(out, name, record),
+            None => Ok(()),
+        }
     }
 }
 
-fn show(out: &impl Print, name: &str, input: &[u8]) -> io::Result<()> {
+// The number by which a record is refused, and 0 if it is not.
+fn number(record: &[u8]) -> u8 {
+    match decode_record::decode_phone_validations(record) {
+        Ok(_) => 0,
+        Err(RecordError::Malformed) => 22,
+        Err(RecordError::TooLarge) => 23,
+        Err(RecordError::CarTwice) => 28,
+    }
+}
+
+fn show(out: &impl Print, name: &str, record: &[u8]) -> io::Result<()> {
     println!(out; "case={name}")?;
-    show_number(out, input)?;
-    let listing = listing::list_record(input);
-    let bytes = listing.bytes;
-    let n = listing.len;
-    out.write_all(&bytes[..n])
-}
-
-fn show_first(out: &impl Print, name: &str, dst: &[u8], n: usize) -> io::Result<()> {
-    if n <= dst.len() {
-        show(out, name, &dst[..n])?;
-    }
-    Ok(())
+    println!(out; "number={}", number(record))?;
+    let Listing { bytes, len } = listing::list_record(record);
+    out.write_all(&bytes[..len])
 }
 
 // `n` phones of `len` bytes in version 1.
 fn show_phones(out: &impl Print, name: &str, n: u8, len: u8) -> io::Result<()> {
-    let mut dst = [0u8; 1090];
-    let at = put_head(&mut dst, n);
-    let end = put_phones(&mut dst, at, n, len);
-    show_first(out, name, &dst, end)
+    let mut draft = Draft::new();
+    draft.put_head(n);
+    draft.put_phones(n, len);
+    draft.show(out, name, draft.at)
 }
 
 // P12, and P13 with one byte more.
 fn show_example(out: &impl Print) -> io::Result<()> {
-    let mut dst = [0u8; 512];
-    let at = put_head(&mut dst, 1);
-    let from = put_byte(&mut dst, at, 2);
-    let last = put_byte(&mut dst, from, 0xA1);
-    let end = put_byte(&mut dst, last, 0xB2);
-    show_first(out, "P12", &dst, end)?;
-    let more = put_byte(&mut dst, end, 0);
-    show_first(out, "P13", &dst, more)?;
-    show_first(out, "the example without its last byte", &dst, last)?;
-    show_first(out, "the example up to its count", &dst, at)?;
-    show_first(out, "the example up to its digest", &dst, 33)?;
-    put_byte(&mut dst, 0, 2);
-    show_first(out, "the example with version 2", &dst, end)?;
-    put_byte(&mut dst, 0, 3);
-    show_first(out, "the example with version 3", &dst, end)
+    let mut draft = Draft::new();
+    draft.put_head(1);
+    let count = draft.at;
+    draft.put_byte(2);
+    draft.put_byte(0xA1);
+    let last = draft.at;
+    draft.put_byte(0xB2);
+    let end = draft.at;
+    draft.show(out, "P12", end)?;
+    draft.put_byte(0);
+    draft.show(out, "P13", draft.at)?;
+    draft.show(out, "the example without its last byte", last)?;
+    draft.show(out, "the example up to its count", count)?;
+    draft.show(out, "the example up to its digest", 33)?;
+    draft.bytes[0] = 2;
+    draft.show(out, "the example with version 2", end)?;
+    draft.bytes[0] = 3;
+    draft.show(out, "the example with version 3", end)
 }
 
 // One car in version 2, and what is wrong with its head.
 fn show_one(out: &impl Print) -> io::Result<()> {
-    let mut dst = [0u8; 512];
-    let at = put_cars(&mut dst, 1);
-    let end = put_car(&mut dst, at, 0x11, 1, 2);
-    show_first(out, "version 2, one car", &dst, end)?;
-    show_first(out, "version 2, its version alone", &dst, 1)?;
-    show_first(out, "version 2, no car after the number", &dst, 2)?;
-    put_cars(&mut dst, 0);
-    show_first(out, "version 2, number of cars 0", &dst, 2)?;
-    show_first(out, "version 2, number of cars 0 and a car", &dst, end)?;
-    put_cars(&mut dst, 2);
-    show_first(out, "version 2, number of cars too large by one", &dst, end)
+    let mut draft = Draft::new();
+    draft.put_cars(1);
+    draft.put_car(0x11, 1, 2);
+    let end = draft.at;
+    draft.show(out, "version 2, one car", end)?;
+    draft.show(out, "version 2, its version alone", 1)?;
+    draft.show(out, "version 2, no car after the number", 2)?;
+    draft.put_cars(0);
+    draft.show(out, "version 2, number of cars 0", 2)?;
+    draft.show(out, "version 2, number of cars 0 and a car", end)?;
+    draft.put_cars(2);
+    draft.show(out, "version 2, number of cars too large by one", end)
 }
 
 // Two cars, the higher digest first; the second has `n` phones of `len` bytes.
 fn show_pair(out: &impl Print, name: &str, n: u8, len: u8) -> io::Result<()> {
-    let mut dst = [0u8; 512];
-    let at = put_cars(&mut dst, 2);
-    let from = put_car(&mut dst, at, 0x22, 2, 3);
-    let end = put_car(&mut dst, from, 0x11, n, len);
-    show_first(out, name, &dst, end)
+    let mut draft = Draft::new();
+    draft.put_cars(2);
+    draft.put_car(0x22, 2, 3);
+    draft.put_car(0x11, n, len);
+    draft.show(out, name, draft.at)
 }
 
 // Two cars, and where the record ends.
 fn show_ends(out: &impl Print) -> io::Result<()> {
-    let mut dst = [0u8; 512];
-    let at = put_cars(&mut dst, 2);
-    let from = put_car(&mut dst, at, 0x22, 2, 3);
-    let up = put_digest(&mut dst, from, 0x11, 1);
-    let end = put_phones(&mut dst, up, 1, 1);
-    let more = put_byte(&mut dst, end, 0);
-    show_first(out, "version 2, two cars and a byte", &dst, more)?;
-    show_first(out, "version 2, the second car not there", &dst, from)?;
-    show_first(out, "version 2, the second car up to its count", &dst, up)?;
-    put_cars(&mut dst, 1);
-    show_first(out, "version 2, number of cars too small by one", &dst, end)
+    let mut draft = Draft::new();
+    draft.put_cars(2);
+    draft.put_car(0x22, 2, 3);
+    let second = draft.at;
+    draft.put_digest(0x11, 1);
+    let count = draft.at;
+    draft.put_phones(1, 1);
+    let end = draft.at;
+    draft.put_byte(0);
+    draft.show(out, "version 2, two cars and a byte", draft.at)?;
+    draft.show(out, "version 2, the second car not there", second)?;
+    draft.show(out, "version 2, the second car up to its count", count)?;
+    draft.put_cars(1);
+    draft.show(out, "version 2, number of cars too small by one", end)
 }
 
 // One digest under the first and the third car, which have `n` phones of `len` bytes and `m` of `size`.
 fn show_again(out: &impl Print, name: &str, n: u8, len: u8, m: u8, size: u8) -> io::Result<()> {
-    let mut dst = [0u8; 512];
-    let at = put_cars(&mut dst, 3);
-    let a = put_car(&mut dst, at, 0x22, n, len);
-    let b = put_car(&mut dst, a, 0x11, 1, 1);
-    let end = put_car(&mut dst, b, 0x22, m, size);
-    show_first(out, name, &dst, end)
+    let mut draft = Draft::new();
+    draft.put_cars(3);
+    draft.put_car(0x22, n, len);
+    draft.put_car(0x11, 1, 1);
+    draft.put_car(0x22, m, size);
+    draft.show(out, name, draft.at)
 }
 
 // Two digests that differ in their last byte, and then are the same, with a byte after them.
 fn show_last(out: &impl Print) -> io::Result<()> {
-    let mut dst = [0u8; 512];
-    let at = put_cars(&mut dst, 2);
-    let from = put_car(&mut dst, at, 0x22, 1, 1);
-    let end = put_car(&mut dst, from, 0x22, 1, 1);
-    let more = put_byte(&mut dst, end, 0);
-    show_first(out, "a digest twice and a byte", &dst, more)?;
-    let last = put_run(&mut dst, from, 0x22, 0, 31);
-    put_byte(&mut dst, last, 0x23);
-    show_first(out, "digests that differ in their last byte", &dst, end)
+    let mut draft = Draft::new();
+    draft.put_cars(2);
+    draft.put_car(0x22, 1, 1);
+    let second = draft.at;
+    draft.put_car(0x22, 1, 1);
+    let end = draft.at;
+    draft.put_byte(0);
+    draft.show(out, "a digest twice and a byte", draft.at)?;
+    draft.at = second;
+    draft.put_run(0x22, 0, 31);
+    draft.put_byte(0x23);
+    draft.show(out, "digests that differ in their last byte", end)
 }
 
 // Four cars with all that fits, and five.
 fn show_four(out: &impl Print) -> io::Result<()> {
-    let mut dst = [0u8; 4393];
-    let at = put_cars(&mut dst, 4);
-    let a = put_car(&mut dst, at, 0x11, 32, 32);
-    let b = put_car(&mut dst, a, 0x22, 32, 32);
-    let c = put_car(&mut dst, b, 0x33, 32, 32);
-    let end = put_car(&mut dst, c, 0x44, 32, 32);
+    let mut draft = Draft::new();
+    draft.put_cars(4);
+    draft.put_car(0x11, 32, 32);
+    draft.put_car(0x22, 32, 32);
+    draft.put_car(0x33, 32, 32);
+    draft.put_car(0x44, 32, 32);
+    let end = draft.at;
     if end == 4358 {
-        show_first(
-            out,
-            "4,358 bytes: four cars of 32 phones of 32 bytes",
-            &dst,
-            end,
-        )?;
+        draft.show(out, "4,358 bytes: four cars of 32 phones of 32 bytes", end)?;
     }
-    put_cars(&mut dst, 5);
-    let more = put_car(&mut dst, end, 0x55, 1, 1);
-    show_first(out, "five cars", &dst, more)
+    draft.put_cars(5);
+    draft.at = end;
+    draft.put_car(0x55, 1, 1);
+    draft.show(out, "five cars", draft.at)
 }
 
 // Well formed to the last byte, 8,192 of them and 8,193.
 fn show_long(out: &impl Print) -> io::Result<()> {
-    let mut dst = [0u8; 8193];
-    let at = put_cars(&mut dst, 2);
-    let from = put_car(&mut dst, at, 0x11, 31, 255);
-    let end = put_car(&mut dst, from, 0x22, 1, 187);
-    if end == 8192 {
-        show_first(out, "8,192 bytes", &dst, end)?;
+    let mut draft = Draft::new();
+    draft.put_cars(2);
+    draft.put_car(0x11, 31, 255);
+    let second = draft.at;
+    draft.put_car(0x22, 1, 187);
+    if draft.at == 8192 {
+        draft.show(out, "8,192 bytes", draft.at)?;
     }
-    let more = put_car(&mut dst, from, 0x22, 1, 188);
-    if more == 8193 {
-        show_first(out, "8,193 bytes", &dst, more)?;
+    draft.at = second;
+    draft.put_car(0x22, 1, 188);
+    if draft.at == 8193 {
+        draft.show(out, "8,193 bytes", draft.at)?;
     }
     Ok(())
 }

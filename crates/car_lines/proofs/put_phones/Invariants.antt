@@ -4,5 +4,5 @@ use Rattle.std.proofs.Common.{◌-◌}
 use Rattle.car_lines.proofs.Walk.{Walking}
 use Rattle.car_lines.proofs.put_phones.Given as goal
 
-abbrev pub invariant-loop-i : goal.invariant-loop-i
-invariant-loop-i l = Walking l.initial.dst l.at l.saved l.from l.count l.dst l.places (l.count - l.i)
+abbrev pub invariant-loop : goal.invariant-loop
+invariant-loop l = Walking l.initial.dst l.at l.saved l.from l.count l.dst l.places (l.count - l.counter)
