@@ -2,7 +2,7 @@
 // and says what the words behind a name are.
 #![tactic(auto)]
 
-ghost use Rattle.std.specs.Prelude.{◌≡◌, false, ltb, length, get_or};
+ghost use Rattle.std.specs.Prelude.{◌≡◌, ltb, length};
 ghost use Rattle.word_table.specs.Words.{lines_of, rest_of, place_in};
 ghost use Rattle.replay_names.specs.Names as Names;
 ghost use Rattle.replay_names.specs.Names.{rows, keys, exactly, wanted};
@@ -125,48 +125,28 @@ methods
 frames
 ";
 
-fn is_right(right: [bool; 28], k: usize) -> bool
-    ensures { result ≡ get_or right k false }
-{
-    if k < 28 {
-        return right[k];
-    }
-    false
-}
-
-fn how_many(many: [usize; 28], k: usize) -> usize
-    ensures { result ≡ get_or many k 0 }
-{
-    if k < 28 {
-        return many[k];
-    }
-    0
-}
-
 // Whether the items that a row's words behind its name say are right, and no other is there.
 fn has_all(row: &[u8], keys: &[u8], right: [bool; 28], many: [usize; 28], count: usize) -> bool
     ensures { result ≡ exactly (lines_of 10 keys.now) right many count (lines_of 32 (rest_of row.now)) }
 {
+    let mut words = match word_table::first_piece(row, b' ') {
+        Some((_, behind)) => behind,
+        None => row,
+    };
     let mut left = count;
-    let mut at = word_table::end_of(row, 0, 32) + 1;
-    while at < row.len() {
-        let end = word_table::end_of(row, at, 32);
-        let k = word_table::place_in(keys, &row[at..end]);
-        if is_right(right, k) {
-            let n = how_many(many, k);
-            if left < n {
-                return false;
-            }
-            left -= n;
-            at = end + 1;
-        } else {
+    while let Some((word, rest)) = word_table::first_piece(words, b' ') {
+        let k = word_table::place_in(keys, word);
+        if 28 <= k || !right[k] || left < many[k] {
             return false;
         }
+        left -= many[k];
+        words = rest;
     }
     0 == left
 }
 
 // The same of the row at a place of a table.
+#[tactic(auto, unfolding(crate::specs::Names::wanted))]
 fn row_takes(
     rows: &[u8],
     keys: &[u8],
@@ -177,10 +157,7 @@ fn row_takes(
 ) -> bool
     ensures { result ≡ wanted (lines_of 10 rows.now) (lines_of 10 keys.now) name right many count }
 {
-    let row = word_table::row_at(rows, name);
-    let start = row.0;
-    let end = row.1;
-    has_all(&rows[start..end], keys, right, many, count)
+    has_all(word_table::row_at(rows, name), keys, right, many, count)
 }
 
 fn name_takes(name: usize, right: [bool; 28], many: [usize; 28], count: usize) -> bool
@@ -191,11 +168,9 @@ fn name_takes(name: usize, right: [bool; 28], many: [usize; 28], count: usize) -
 
 // Whether these are the items that a name wants: `right` says of each key whether its items are there and of their form, `many`
 // how many they are, `count` how many items there are at all.
+#[tactic(auto, unfolding(crate::specs::Names::takes))]
 pub fn takes(name: usize, right: [bool; 28], many: [usize; 28], count: usize) -> bool
     ensures { result ≡ Names.takes name right many count }
 {
-    if is_name(name) {
-        return name_takes(name, right, many, count);
-    }
-    false
+    is_name(name) && name_takes(name, right, many, count)
 }

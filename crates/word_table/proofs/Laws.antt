@@ -6,7 +6,7 @@ use lib.ListN.{drop_of_length-le}
 use lib.Seq.{drop-drop}
 use native.Mathlib.Nat.{sub-zero}
 use Rattle.arrays.specs.Arrays.{same_bytes}
-use Rattle.word_table.specs.Words.{before, onto, lines_of, name_of, place_in}
+use Rattle.word_table.specs.Words.{before, onto, lines_of, name_of, rest_of, place_in}
 
 -- at a byte b, none stand before it
 pub before_here : (b : ℕ) (s : List ℕ) (i : ℕ) → i < length s → get_or s i 0 ≡ b → before b (drop i s) ≡ 0
@@ -99,3 +99,16 @@ row_step rows row more n e h = let f : n ≡ suc (n - 1) = omega arith in rw e (
 pub row_none : (s : List ℕ) (n : ℕ) → s ≡ [] → s ≡ get_or (lines_of 10 s) n []
 unfolding lines_of
 row_none s n e = rw e
+
+-- the pieces behind a row's name
+no_rows : lines_of 32 [] ≡ []
+unfolding lines_of
+no_rows = refl
+
+pub rest_pieces : (row name : List ℕ) (more : List (List ℕ)) → lines_of 32 row ≡ name ∷ more → more ≡ lines_of 32 (rest_of row)
+unfolding rest_of
+rest_pieces [] name more e = cc no_rows
+rest_pieces (x ∷ xs) name more e =
+    let row = x ∷ xs in
+    let k : lines_of 32 row ≡ take (before 32 row - 0) row ∷ lines_of 32 (drop (before 32 row + 1) row) = lines_cut 32 row 0 (before 32 row) (omega arith) (omega arith) in
+    cc

@@ -1,78 +1,44 @@
-use mathlib.Core.Path.{◌≡◌, sym, ◌∙◌}
-use native.Mathlib.Omega.{arith}
-use Rattle.word_table.specs.Words.{lines_of, rest_of, before}
-use Rattle.word_table.proofs.Laws.{end_inside}
-use Rattle.replay_names.proofs.Laws.{one_less, not_right, too_many, none_left}
+use Rattle.std.proofs.Common.{◌≡◌, ◌∙◌, length, arith, sym, rules}
+use Rattle.word_table.specs.Words.{lines_of}
+use Rattle.replay_names.proofs.Laws.{one_less, not_right, no_key, too_many, none_left, behind_name, behind_none}
 use Rattle.replay_names.proofs.has_all.Goals as goal
+use Rattle.replay_names.proofs.has_all.Goals.{in-Some, in-None}
+use Rattle.replay_names.proofs.has_all.Goals.{then-k-ge28-via-then-k-ge28, then-k-ge28-via-else-k-ge28+then-not-right-k, then-k-ge28-via-else-k-ge28+else-not-right-k+then-left-many}
 
-pub overflow_add-at : goal.overflow_add-at
-unfolding rest_of
-overflow_add-at c = omega (arith, end_inside 32 c.args.row.now 0 c.end_of-at.result (omega arith) c.end_of-at.ensures)
-
-pub loop-at-init : goal.loop-at-init
-unfolding rest_of
-loop-at-init c =
+pub loop-word-init : goal.loop-word-init
+loop-word-init c =
     let a = c.args in
-    let e : before 32 a.row.now ≡ c.end_of-at.result = omega (arith, c.end_of-at.ensures) in
-    rw e
+    elim c.match-first_piece.branch [
+      | in-Some w ↦ rw w.words-is (behind_name (lines_of 10 a.keys.now) a.right a.many a.count a.row.now _ _ w.in-Some.ensures.pieces)
+      | in-None w ↦ rw w.words-is (behind_none (lines_of 10 a.keys.now) a.right a.many a.count a.row.now w.in-None.ensures.pieces)
+    ]
 
-pub slice_bounds-place_in-count : goal.slice_bounds-place_in-count
-unfolding rest_of
-slice_bounds-place_in-count c = omega (arith, c.end_of-end.ensures)
-
-pub slice_bounds-place_in-start : goal.slice_bounds-place_in-start
-unfolding rest_of
-slice_bounds-place_in-start c = omega (arith, end_inside 32 c.args.row.now c.loop-at.at c.end_of-end.result (omega arith) c.end_of-end.ensures)
-
-pub slice_bounds-place_in-end : goal.slice_bounds-place_in-end
-unfolding rest_of
-slice_bounds-place_in-end c = omega (arith, end_inside 32 c.args.row.now c.loop-at.at c.end_of-end.result (omega arith) c.end_of-end.ensures)
-
-pub returns-then-left-n : goal.returns-then-left-n
-unfolding rest_of
-returns-then-left-n c =
+pub returns-then-k-ge28 : goal.returns-then-k-ge28
+returns-then-k-ge28 c =
     let a = c.args in
-    let l = c.loop-at in
-    let e = c.end_of-end in
-    let k = c.place_in-k.ensures in
-    sym (l.invariant ∙ too_many (lines_of 10 a.keys.now) a.right a.many a.row.now l.left l.at e.result (omega arith) e.ensures (rw (← k, ← c.is_right.ensures) c.if-is_right.true) (rw (← k, ← c.how_many-n.ensures) c.if-left-n.true))
+    let l = c.loop-word in
+    let p = c.in-Some-first_piece in
+    let k = c.place_in-k in
+    let far : length a.right ≡ 28 = search rules in
+    elim c.then-k-ge28.branch [
+      | then-k-ge28-via-then-k-ge28 w ↦
+          sym (l.invariant ∙ no_key (lines_of 10 a.keys.now) a.right a.many l.left _ _ _ p.ensures.pieces k.result k.ensures (omega (arith, w.if-k-ge28.true)))
+      | then-k-ge28-via-else-k-ge28+then-not-right-k w ↦
+          sym (l.invariant ∙ not_right (lines_of 10 a.keys.now) a.right a.many l.left _ _ _ p.ensures.pieces k.result k.ensures w.if-not-right-k.true)
+      | then-k-ge28-via-else-k-ge28+else-not-right-k+then-left-many w ↦
+          sym (l.invariant ∙ too_many (lines_of 10 a.keys.now) a.right a.many l.left _ _ _ p.ensures.pieces k.result k.ensures w.if-not-right-k.false w.if-left-many.true)
+    ]
 
-pub overflow_add-at-then-is_right : goal.overflow_add-at-then-is_right
-unfolding rest_of
-overflow_add-at-then-is_right c =
+pub loop-word-preserved : goal.loop-word-preserved
+loop-word-preserved c =
     let a = c.args in
-    let l = c.loop-at in
-    let e = c.end_of-end in
-    omega (arith, end_inside 32 a.row.now l.at e.result (omega arith) e.ensures)
-
-pub loop-at-smaller : goal.loop-at-smaller
-unfolding rest_of
-loop-at-smaller c =
-    let a = c.args in
-    let l = c.loop-at in
-    let e = c.end_of-end in
-    omega (arith, end_inside 32 a.row.now l.at e.result (omega arith) e.ensures)
-
-pub loop-at-preserved : goal.loop-at-preserved
-unfolding rest_of
-loop-at-preserved c =
-    let a = c.args in
-    let l = c.loop-at in
-    let e = c.end_of-end in
-    let k = c.place_in-k.ensures in
-    l.invariant ∙ rw (c.how_many-n.ensures, k) (one_less (lines_of 10 a.keys.now) a.right a.many a.row.now l.left l.at e.result (omega arith) e.ensures (rw (← k, ← c.is_right.ensures) c.if-is_right.true) (rw (← k, ← c.how_many-n.ensures) (omega (arith, c.if-left-n.false))))
-
-pub returns-else-is_right : goal.returns-else-is_right
-unfolding rest_of
-returns-else-is_right c =
-    let a = c.args in
-    let l = c.loop-at in
-    let e = c.end_of-end in
-    sym (l.invariant ∙ not_right (lines_of 10 a.keys.now) a.right a.many a.row.now l.left l.at e.result (omega arith) e.ensures (rw (← c.place_in-k.ensures, ← c.is_right.ensures) c.if-is_right.false))
+    let l = c.loop-word in
+    let p = c.in-Some-first_piece in
+    let k = c.place_in-k in
+    l.invariant ∙ one_less (lines_of 10 a.keys.now) a.right a.many l.left _ _ _ p.ensures.pieces k.result k.ensures c.if-not-right-k.false c.if-left-many.false
 
 pub returns : goal.returns
-unfolding rest_of
 returns c =
     let a = c.args in
-    let l = c.loop-at in
-    sym (l.invariant ∙ none_left (lines_of 10 a.keys.now) a.right a.many a.row.now l.left l.at (omega arith))
+    let l = c.loop-word in
+    sym (l.invariant ∙ none_left (lines_of 10 a.keys.now) a.right a.many l.left l.words.now c.in_default.ensures.pieces)
