@@ -2,6 +2,7 @@
 use mathlib.Core.Path.{◌≡◌, refl, ap, ap₂, sym, ◌∙◌}
 use mathlib.Core.Bool.{Bool, true, false, cond}
 use mathlib.Core.List.{List, [], ◌∷◌, ◌++◌, append-nil, append_assoc}
+use Rattle.std.proofs.Common.{Some, None, is_some, unwrap_or}
 use Prim.Native.Nat.{ℕ, ◌+◌, ◌-◌, ◌≤◌}
 use native.Mathlib.Nat.{add-zero}
 use native.Mathlib.Omega.{arith}
@@ -14,8 +15,6 @@ use Rattle.arrays.proofs.Laws.{put_length}
 use Rattle.replay_values.specs.Values.{the_number, the_bytes, lay_the_bytes}
 use Rattle.replay_digits.specs.Digits.{is_bytes, as_bytes, fits_in, laid_to, lay_bytes}
 use Rattle.replay_script.specs.Words.{part}
-use Rattle.replay_digits.specs.declared.Laid.TheVariants.{To, NoBytes}
-use Rattle.replay_digits.specs.declared.Number.TheVariants.{Given}
 use Rattle.replay_digits.specs.declared.Written.{Written}
 use Rattle.replay_digits.proofs.Laws.{number_most}
 use Rattle.replay_items.specs.Bytes.{are_bytes, bytes_in, bytes_at, lent_at, LaidAt}
@@ -23,8 +22,8 @@ use Rattle.replay_items.specs.declared.LaidValue.{LaidValue}
 
 -- ---- numbers
 
-pub the_most : (most n : ℕ) (vs : List (List ℕ)) → the_number most vs ≡ Given n → n ≤ most
-the_most most n [] e = let z : ◌≡◌ {A = ℕ} 0 1 = cc in omega arith
+pub the_most : (most n : ℕ) (vs : List (List ℕ)) → the_number most vs ≡ Some n → n ≤ most
+the_most most n [] e = cc
 the_most most n (v ∷ vs) e = number_most 10 most n v e
 
 -- ---- one value laid down
@@ -33,11 +32,11 @@ pub put_none : (d : List ℕ) (at : ℕ) → put d at [] ≡ d
 unfolding put
 put_none d at = rw (append-nil, add-zero) (take-append-drop at d)
 
-laid_by : (b : List ℕ) (at size : ℕ) (t : Bool) → at + length (cond t b []) ≤ size → cond (cond t (cond (ltb size (at + length b)) false true) false) (To (at + length b)) NoBytes ≡ cond t (To (at + length (cond t b []))) NoBytes
+laid_by : (b : List ℕ) (at size : ℕ) (t : Bool) → at + length (cond t b []) ≤ size → cond (cond t (cond (ltb size (at + length b)) false true) false) (Some (at + length b)) None ≡ cond t (Some (at + length (cond t b []))) None
 laid_by b at size true fits = rw (le-ltb size (at + length b) fits)
 laid_by b at size false fits = refl
 
-pub laid_as : (form : Written) (vs : List (List ℕ)) (at size : ℕ) → at + length (bytes_in form vs) ≤ size → the_bytes form vs at size ≡ cond (are_bytes form vs) (To (at + length (bytes_in form vs))) NoBytes
+pub laid_as : (form : Written) (vs : List (List ℕ)) (at size : ℕ) → at + length (bytes_in form vs) ≤ size → the_bytes form vs at size ≡ cond (are_bytes form vs) (Some (at + length (bytes_in form vs))) None
 unfolding laid_to fits_in
 laid_as form [] at size fits = refl
 laid_as form (v ∷ vs) at size fits = laid_by (as_bytes form v) at size (is_bytes form v) fits
@@ -51,14 +50,6 @@ unfolding lay_bytes fits_in
 lay_as form [] at out fits = sym (put_none out at)
 lay_as form (v ∷ vs) at out fits = lay_by (as_bytes form v) out at (is_bytes form v) fits
 
-pub took : (t : Bool) (m e : ℕ) → cond t (To m) NoBytes ≡ To e → (t ≡ true) × (m ≡ e)
-took true m e p = (refl, cc)
-took false m e p = (cc, cc)
-
-pub took_none : (t : Bool) (m : ℕ) → cond t (To m) NoBytes ≡ NoBytes → t ≡ false
-took_none true m p = cc
-took_none false m p = refl
-
 none_by : (b : List ℕ) (t : Bool) → t ≡ false → cond t b [] ≡ []
 none_by b true p = cc
 none_by b false p = refl
@@ -66,6 +57,15 @@ none_by b false p = refl
 pub no_bytes : (form : Written) (vs : List (List ℕ)) → are_bytes form vs ≡ false → bytes_in form vs ≡ []
 no_bytes form [] p = refl
 no_bytes form (v ∷ vs) p = none_by (as_bytes form v) (is_bytes form v) p
+
+end_by : (t : Bool) (n at : ℕ) → (t ≡ false → n ≡ at) → (is_some (cond t (Some n) None) ≡ t) × (unwrap_or (cond t (Some n) None) at ≡ n)
+end_by true n at h = (refl, refl)
+end_by false n at h = (refl, sym (h refl))
+
+-- whether there is a value, and where it ends
+pub has_end : (form : Written) (vs : List (List ℕ)) (at : ℕ)
+    → (is_some (cond (are_bytes form vs) (Some (at + length (bytes_in form vs))) None) ≡ are_bytes form vs) × (unwrap_or (cond (are_bytes form vs) (Some (at + length (bytes_in form vs))) None) at ≡ at + length (bytes_in form vs))
+has_end form vs at = end_by (are_bytes form vs) (at + length (bytes_in form vs)) at (λ p. omega (arith, ap length (no_bytes form vs p)))
 
 -- ---- one value behind the other
 

@@ -1,5 +1,6 @@
 -- Which items a line has, key by key, and whether they are those that its name wants.
-use Rattle.std.specs.Prelude.{Bool, cond, ◌&&◌, ◌||◌, List, [], ◌∷◌, map, ℕ}
+use Rattle.std.specs.Prelude.{Bool, true, false, cond, ◌||◌, List, [], ◌∷◌, map, ℕ, Option, Some, None, is_some}
+use Rattle.frames.specs.declared.TxClass.{TxClass}
 use Rattle.frames.specs.Frames.{is_command}
 use Rattle.replay_names.specs.Names as Names
 use Rattle.replay_items.specs.declared.Items.{Items}
@@ -14,11 +15,19 @@ abbrev pub ◌if◌ : ℕ → Bool → Found
 n if r = record { right = r; many = n }
 
 -- a command has its owner too
+abbrev pub with_owner : Option TxClass → Bool → Bool
+with_owner None owner = false
+with_owner (Some class) owner = cond (is_command class) owner true
+
+abbrev pub with_class : Option TxClass → ℕ
+with_class None = 1
+with_class (Some class) = cond (is_command class) 2 1
+
 unfoldable pub class_right : Items → Bool
-class_right i = cond (is_command i.class.class) (i.class.ok && i.has.owner) i.class.ok
+class_right i = with_owner i.class i.has.owner
 
 unfoldable pub class_items : Items → ℕ
-class_items i = cond (is_command i.class.class) 2 1
+class_items i = with_class i.class
 
 -- in the order of key_names
 unfoldable pub found : Items → List Found
@@ -30,27 +39,27 @@ found i =
     ∷ 1 if i.has.stored
     ∷ 1 if i.has.fingerprint
     ∷ 1 if i.has.output
-    ∷ 1 if i.numbers.clock.ok
-    ∷ 1 if i.numbers.session.ok
-    ∷ 1 if i.numbers.bus.ok
-    ∷ 1 if i.numbers.number.ok
-    ∷ 1 if i.numbers.place.ok
-    ∷ 1 if i.numbers.next.ok
-    ∷ 1 if i.numbers.relocks.ok
-    ∷ 1 if i.numbers.turns.ok
-    ∷ 1 if i.numbers.length.ok
-    ∷ 1 if i.numbers.slot.ok
-    ∷ 1 if i.switches.unlocked.ok
-    ∷ 1 if i.switches.enabled.ok
-    ∷ 1 if i.switches.on.ok
-    ∷ 1 if i.switches.target.ok
-    ∷ 1 if i.car.ok
+    ∷ 1 if is_some i.numbers.clock
+    ∷ 1 if is_some i.numbers.session
+    ∷ 1 if is_some i.numbers.bus
+    ∷ 1 if is_some i.numbers.number
+    ∷ 1 if is_some i.numbers.place
+    ∷ 1 if is_some i.numbers.next
+    ∷ 1 if is_some i.numbers.relocks
+    ∷ 1 if is_some i.numbers.turns
+    ∷ 1 if is_some i.numbers.length
+    ∷ 1 if is_some i.numbers.slot
+    ∷ 1 if is_some i.switches.unlocked
+    ∷ 1 if is_some i.switches.enabled
+    ∷ 1 if is_some i.switches.on
+    ∷ 1 if is_some i.switches.target
+    ∷ 1 if is_some i.car
     ∷ 1 if (i.nobody || i.has.phone)
-    ∷ 5 if i.frame.ok
+    ∷ 5 if is_some i.frame
     ∷ class_items i if class_right i
-    ∷ 6 if i.settings.ok
-    ∷ i.methods.count if i.methods.ok
-    ∷ i.frames.count if i.frames.ok
+    ∷ 6 if is_some i.settings
+    ∷ i.methods.count if is_some i.methods.list
+    ∷ i.frames.count if is_some i.frames.list
     ∷ []
 
 unfoldable pub right_of : Items → List Bool

@@ -3,19 +3,18 @@ ghost use Rattle.std.specs.Prelude.{◌≡◌, ◌+◌, ◌≤◌, length};
 ghost use Rattle.replay_items.specs.Bytes.{bytes_at, lent_at, LaidAt, LaidAll};
 
 use crate::{Ends, Has, LaidValue, LaidValues};
-use replay_digits::{Laid, Written};
+use replay_digits::Written;
 
 // The bytes of lent memory from `a` to before `e`; none if it has no such part.
+#[tactic(auto, unfolding(crate::specs::Bytes::lent_at))]
 pub fn lent(room: &[u8], a: usize, e: usize) -> &[u8]
     ensures { result.now ≡ lent_at a e room.now }
 {
-    if room.len() < e {
-        return &room[..0];
+    if room.len() < e || e < a {
+        &room[..0]
+    } else {
+        &room[a..e]
     }
-    if e < a {
-        return &room[..0];
-    }
-    &room[a..e]
 }
 
 // Lays the bytes of the only item with this key down from `at` on, if they fit.
@@ -24,9 +23,9 @@ fn lay(line: &[u8], key: &[u8], form: Written, room: &mut [u8], at: usize) -> La
     ensures { at + length (bytes_at form key.now line.now) ≤ length room.old → LaidAt form key.now line.now room.old room.new at result }
 {
     let laid = replay_values::bytes_of(line, key, form, room, at);
-    match laid {
-        Laid::To(end) => LaidValue { ok: true, end },
-        Laid::NoBytes => LaidValue { ok: false, end: at },
+    LaidValue {
+        ok: laid.is_some(),
+        end: laid.unwrap_or(at),
     }
 }
 

@@ -1,4 +1,4 @@
-// The items of a script's line, read all at once: each has its value, and whether it stands there once and is of its form.
+// The items of a script's line, read all at once: each has a value if it stands there once and is of its form.
 // `takes` then says which of them a name wants. Bytes are laid down in lent memory, one value behind the other.
 #![tactic(auto)]
 
@@ -9,85 +9,54 @@ pub mod values;
 ghost use Rattle.std.specs.Prelude.{◌≤◌, length};
 ghost use Rattle.replay_items.specs.Items.{Reads};
 
-use frames::{CanFrame, TxClass};
+use frames::{CanFrame, Id, TxClass};
 use replay_lists::{Methods, ProbeFrames};
-use replay_values::CarItem;
-use state::Settings;
+use state::{Car, Settings};
 
-// A number of 8, 32 or 64 bits; not `ok`: it is missing, repeated or not of its form.
-#[derive(Clone, Copy)]
-pub struct Small {
-    pub ok: bool,
-    pub value: u8,
-}
+// What a call gets for an item that its line has not; `takes` lets no such line through.
+pub const NO_CAR: Car = Car {
+    known: false,
+    digest: [0; 32],
+};
 
-#[derive(Clone, Copy)]
-pub struct Word {
-    pub ok: bool,
-    pub value: u32,
-}
+pub const NO_FRAME: CanFrame = CanFrame {
+    bus: 0,
+    id: Id::Standard(0),
+    data: [0; 8],
+    dlc: 0,
+};
 
-#[derive(Clone, Copy)]
-pub struct Clock {
-    pub ok: bool,
-    pub value: u64,
-}
+pub const NO_SETTINGS: Settings = Settings {
+    digits: 0,
+    tries: 0,
+    session: 0,
+    cooldown: 0,
+    keep: 0,
+    bonded: 0,
+};
 
-// A length or a place of the host's list, up to the most that it may be.
-#[derive(Clone, Copy)]
-pub struct Place {
-    pub ok: bool,
-    pub value: usize,
-}
-
-// yes or no.
-#[derive(Clone, Copy)]
-pub struct Switch {
-    pub ok: bool,
-    pub on: bool,
-}
-
-#[derive(Clone, Copy)]
-pub struct ClassItem {
-    pub ok: bool,
-    pub class: TxClass,
-}
-
-// A frame to send: frame_bus, kind, id, dlc and data.
-#[derive(Clone, Copy)]
-pub struct FrameItem {
-    pub ok: bool,
-    pub frame: CanFrame,
-}
-
-// The six settings of a new gate.
-#[derive(Clone, Copy)]
-pub struct SettingsItem {
-    pub ok: bool,
-    pub settings: Settings,
-}
-
-// `slot` is the place of a record in the host's list, which stands behind the same key as `place`.
+// A length and a place of the host's list, `slot`, are of up to the most that they may be; `slot` stands behind the same key as
+// `place`.
 #[derive(Clone, Copy)]
 pub struct Numbers {
-    pub clock: Clock,
-    pub session: Word,
-    pub bus: Small,
-    pub number: Word,
-    pub place: Word,
-    pub next: Word,
-    pub relocks: Word,
-    pub turns: Word,
-    pub length: Place,
-    pub slot: Place,
+    pub clock: Option<u64>,
+    pub session: Option<u32>,
+    pub bus: Option<u8>,
+    pub number: Option<u32>,
+    pub place: Option<u32>,
+    pub next: Option<u32>,
+    pub relocks: Option<u32>,
+    pub turns: Option<u32>,
+    pub length: Option<usize>,
+    pub slot: Option<usize>,
 }
 
 #[derive(Clone, Copy)]
 pub struct Switches {
-    pub unlocked: Switch,
-    pub enabled: Switch,
-    pub on: Switch,
-    pub target: Switch,
+    pub unlocked: Option<bool>,
+    pub enabled: Option<bool>,
+    pub on: Option<bool>,
+    pub target: Option<bool>,
 }
 
 // Which byte values there are.
@@ -116,7 +85,8 @@ pub struct Ends {
     pub output: usize,
 }
 
-// One byte value that was laid down: whether there is one, and the place after it.
+// One byte value that was laid down: whether there is one, and the place after it. No Option: with none the next value still
+// begins at `end`.
 #[derive(Clone, Copy)]
 struct LaidValue {
     ok: bool,
@@ -129,17 +99,17 @@ pub struct LaidValues {
     ends: Ends,
 }
 
-// `count` is how many items there are, known or not; `nobody` says that the phone is `none`.
+// `count` is how many items there are, known or not; `frame` is made of frame_bus, kind, id, dlc and data; `nobody` says that the phone is `none`.
 #[derive(Clone, Copy)]
 pub struct Items {
     pub count: usize,
     pub numbers: Numbers,
     pub switches: Switches,
-    pub car: CarItem,
-    pub class: ClassItem,
-    pub frame: FrameItem,
+    pub car: Option<Car>,
+    pub class: Option<TxClass>,
+    pub frame: Option<CanFrame>,
     pub frames: ProbeFrames,
-    pub settings: SettingsItem,
+    pub settings: Option<Settings>,
     pub methods: Methods,
     pub nobody: bool,
     pub has: Has,
@@ -152,34 +122,27 @@ pub struct ItemsRead {
 }
 
 // Reads a line; `room` has room for as many bytes as the line, and so for all its byte values together.
+#[tactic(auto, unfolding(crate::specs::Items::read_of))]
 pub fn read(line: &[u8], room: &mut [u8]) -> ItemsRead
     requires { length line.now ≤ length room.old }
     ensures { Reads line.now room.old room.new result }
 {
     let laid = bytes::lay_all(line, room);
-    let has = laid.has;
-    let ends = laid.ends;
-    let numbers = values::numbers(line);
-    let switches = values::switches(line);
-    let car = replay_values::car_of(line);
-    let class = values::class(line);
-    let frame = values::frame(line);
-    let frames = replay_lists::frames_of(line);
-    let settings = values::settings(line);
-    let methods = replay_lists::methods_of(line);
-    let nobody = replay_values::is_word(line, b"phone", b"none");
     let items = Items {
         count: replay_script::items(line),
-        numbers,
-        switches,
-        car,
-        class,
-        frame,
-        frames,
-        settings,
-        methods,
-        nobody,
-        has,
+        numbers: values::numbers(line),
+        switches: values::switches(line),
+        car: replay_values::car_of(line),
+        class: values::class(line),
+        frame: values::frame(line),
+        frames: replay_lists::frames_of(line),
+        settings: values::settings(line),
+        methods: replay_lists::methods_of(line),
+        nobody: replay_values::is_word(line, b"phone", b"none"),
+        has: laid.has,
     };
-    ItemsRead { items, ends }
+    ItemsRead {
+        items,
+        ends: laid.ends,
+    }
 }

@@ -1,102 +1,70 @@
 // Whether a line's items are those that its name wants, by the table of `replay_names`.
-ghost use Rattle.std.specs.Prelude.{◌≡◌, ◌&&◌, ◌||◌};
+ghost use Rattle.std.specs.Prelude.{◌≡◌};
 ghost use Rattle.replay_items.specs.Takes as Takes;
 ghost use Rattle.replay_items.specs.Takes.{class_right, class_items, right_of, many_of};
 
 use crate::Items;
 
-pub fn both(a: bool, b: bool) -> bool
-    ensures { result ≡ (a && b) }
-{
-    if a {
-        return b;
-    }
-    false
-}
-
-fn either(a: bool, b: bool) -> bool
-    ensures { result ≡ (a || b) }
-{
-    if a {
-        return true;
-    }
-    b
-}
-
-pub fn all_three(a: bool, b: bool, c: bool) -> bool
-    ensures { result ≡ (a && b && c) }
-{
-    if a {
-        return both(b, c);
-    }
-    false
-}
-
 // A command has its owner too.
+#[tactic(auto, unfolding(crate::specs::Takes::class_right))]
 fn class_right(i: Items) -> bool
     ensures { result ≡ class_right i }
 {
-    let c = i.class;
-    let class = c.class;
-    if frames::is_command(class) {
-        return both(c.ok, i.has.owner);
+    match i.class {
+        Some(class) => !frames::is_command(class) || i.has.owner,
+        None => false,
     }
-    c.ok
 }
 
+#[tactic(auto, unfolding(crate::specs::Takes::class_items))]
 fn class_items(i: Items) -> usize
     ensures { result ≡ class_items i }
 {
-    let c = i.class;
-    let class = c.class;
-    if frames::is_command(class) {
-        return 2;
+    match i.class {
+        Some(class) if frames::is_command(class) => 2,
+        _ => 1,
     }
-    1
 }
 
 // Of each key of the table, in its order, whether its items are there and of their form.
+#[tactic(auto, unfolding(crate::specs::Takes::found, crate::specs::Takes::right_of))]
 fn right(i: Items) -> [bool; 28]
     ensures { result ≡ right_of i }
 {
-    let h = i.has;
-    let n = i.numbers;
-    let s = i.switches;
-    let peer = either(i.nobody, h.phone);
-    let class = class_right(i);
     [
-        h.phone,
-        h.method,
-        h.random,
-        h.code,
-        h.stored,
-        h.fingerprint,
-        h.output,
-        n.clock.ok,
-        n.session.ok,
-        n.bus.ok,
-        n.number.ok,
-        n.place.ok,
-        n.next.ok,
-        n.relocks.ok,
-        n.turns.ok,
-        n.length.ok,
-        n.slot.ok,
-        s.unlocked.ok,
-        s.enabled.ok,
-        s.on.ok,
-        s.target.ok,
-        i.car.ok,
-        peer,
-        i.frame.ok,
-        class,
-        i.settings.ok,
-        i.methods.ok,
-        i.frames.ok,
+        i.has.phone,
+        i.has.method,
+        i.has.random,
+        i.has.code,
+        i.has.stored,
+        i.has.fingerprint,
+        i.has.output,
+        i.numbers.clock.is_some(),
+        i.numbers.session.is_some(),
+        i.numbers.bus.is_some(),
+        i.numbers.number.is_some(),
+        i.numbers.place.is_some(),
+        i.numbers.next.is_some(),
+        i.numbers.relocks.is_some(),
+        i.numbers.turns.is_some(),
+        i.numbers.length.is_some(),
+        i.numbers.slot.is_some(),
+        i.switches.unlocked.is_some(),
+        i.switches.enabled.is_some(),
+        i.switches.on.is_some(),
+        i.switches.target.is_some(),
+        i.car.is_some(),
+        i.nobody || i.has.phone,
+        i.frame.is_some(),
+        class_right(i),
+        i.settings.is_some(),
+        i.methods.list.is_some(),
+        i.frames.list.is_some(),
     ]
 }
 
 // And how many they are.
+#[tactic(auto, unfolding(crate::specs::Takes::found, crate::specs::Takes::many_of))]
 fn many(i: Items) -> [usize; 28]
     ensures { result ≡ many_of i }
 {
@@ -110,10 +78,9 @@ fn many(i: Items) -> [usize; 28]
 }
 
 // Whether a line's items are those that its name wants.
+#[tactic(auto, unfolding(crate::specs::Takes::takes))]
 pub fn takes(name: usize, i: Items) -> bool
     ensures { result ≡ Takes.takes name i }
 {
-    let right = right(i);
-    let many = many(i);
-    replay_names::takes(name, right, many, i.count)
+    replay_names::takes(name, right(i), many(i), i.count)
 }

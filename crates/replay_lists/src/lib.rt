@@ -27,6 +27,21 @@ pub struct ProbeFrames {
     pub count: usize,
 }
 
+// What stands in a place of a list that no item takes.
+pub const NO_METHOD: Method = Method {
+    id: ShortId {
+        bytes: [0; 32],
+        len: 0,
+    },
+    kind: Kind::InCarAction,
+    needs_approval: false,
+};
+
+pub const NO_FRAME: ProbeFrame = ProbeFrame {
+    id: Id::Standard(0),
+    data: [0; 8],
+};
+
 // The three parts of a value; none if it has not two slashes.
 fn parts_of(v: &[u8]) -> Option<(&[u8], &[u8], &[u8])>
     ensures { MatchOption result (three_of (split 47 v.now) ≡ not_three) (λ p. three_of (split 47 v.now) ≡ three p.0.now p.1.now p.2.now) }
@@ -123,16 +138,8 @@ fn with_next<T: Copy, const N: usize>(
 pub fn methods_of(line: &[u8]) -> Methods
     ensures { result ≡ add_methods no_methods (values_of (ascii "method") (items_of line.now)) }
 {
-    let none = Method {
-        id: ShortId {
-            bytes: [0; 32],
-            len: 0,
-        },
-        kind: Kind::InCarAction,
-        needs_approval: false,
-    };
     let mut all = Methods {
-        list: Some([none; 8]),
+        list: Some([NO_METHOD; 8]),
         count: 0,
     };
     let mut at = 0;
@@ -151,12 +158,8 @@ pub fn methods_of(line: &[u8]) -> Methods
 pub fn frames_of(line: &[u8]) -> ProbeFrames
     ensures { result ≡ add_frames no_frames (values_of (ascii "frame") (items_of line.now)) }
 {
-    let none = ProbeFrame {
-        id: Id::Standard(0),
-        data: [0; 8],
-    };
     let mut all = ProbeFrames {
-        list: Some([none; 4]),
+        list: Some([NO_FRAME; 4]),
         count: 0,
     };
     let mut at = 0;

@@ -1,26 +1,18 @@
-use mathlib.Core.Path.{sym, ap, ◌∙◌}
-use native.Mathlib.Nat.{add-zero}
-use lib.ListN.{length}
+use Rattle.std.proofs.Common.{◌∙◌, ap, length, unwrap_or, is_some}
 use Rattle.replay_script.specs.Places.{item_of}
 use Rattle.replay_items.specs.Bytes.{has_bytes, bytes_at}
-use Rattle.replay_items.proofs.Laws.{laid_as, lay_as, took, took_none, no_bytes}
+use Rattle.replay_items.proofs.Laws.{laid_as, lay_as, has_end}
 use Rattle.replay_items.proofs.bytes.lay.Goals as goal
 
-pub returns-in-To : goal.returns-in-To
+pub returns : goal.returns
 unfolding bytes_at has_bytes
-returns-in-To c = λ fits.
+returns c = λ fits.
     let a = c.args in
-    let v = item_of a.key.now a.line.now in
-    let e = c.bytes_of-laid.ensures in
-    let t = took _ _ _ (sym (laid_as a.form v a.at (length a.room.now) fits) ∙ sym e.0 ∙ c.in-To.is) in
-    record { has = sym t.0; end = sym t.1; memory = e.1 ∙ lay_as a.form v a.at a.room.now fits }
-
-pub returns-in-NoBytes : goal.returns-in-NoBytes
-unfolding bytes_at has_bytes
-returns-in-NoBytes c = λ fits.
-    let a = c.args in
-    let v = item_of a.key.now a.line.now in
-    let e = c.bytes_of-laid.ensures in
-    let t = took_none _ _ (sym (laid_as a.form v a.at (length a.room.now) fits) ∙ sym e.0 ∙ c.in-NoBytes.is) in
-    let n = ap length (no_bytes a.form v t) in
-    record { has = sym t; end = rw n (sym (add-zero a.at)); memory = e.1 ∙ lay_as a.form v a.at a.room.now fits }
+    let vs = item_of a.key.now a.line.now in
+    let laid = c.bytes_of-laid.ensures.place ∙ laid_as a.form vs a.at (length a.room.now) fits in
+    let h = has_end a.form vs a.at in
+    record {
+      has = c.is_some.ensures ∙ (ap is_some laid ∙ h.0);
+      end = c.unwrap_or.ensures ∙ (ap (λ o. unwrap_or o a.at) laid ∙ h.1);
+      memory = c.bytes_of-laid.ensures.written ∙ lay_as a.form vs a.at a.room.now fits;
+    }
