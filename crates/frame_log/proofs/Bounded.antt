@@ -1,14 +1,8 @@
 -- The first 41,554 bytes of a text decide how it is read: a line above 81 bytes is not of the form, and line 513 is a fault.
-use mathlib.Core.Path.{◌≡◌, refl, ap, ap₂, sym, ◌∙◌}
-use mathlib.Core.Bool.{Bool, true, false, cond}
-use mathlib.Core.List.{List, [], ◌∷◌}
-use Prim.Native.Nat.{ℕ, zero, suc, ◌+◌, ◌*◌, ◌-◌, ◌≤◌, ◌<◌}
+use mathlib.Core.Path.{fun_ext}
+use Rattle.std.proofs.Common.{◌≡◌, refl, ap, ap₂, sym, ◌∙◌, Bool, true, false, cond, List, [], ◌∷◌, ℕ, zero, suc, ◌+◌, ◌*◌, ◌-◌, ◌≤◌, ◌<◌, arith, ltb-true, ltb-false, eqb, ltb, length, take, drop, length-append, length-take, length-take-le, take-take, Option, Some, None, Err}
 use native.Mathlib.Nat.{sub-zero, zero-sub, suc-sub-suc}
-use native.Mathlib.Omega.{arith}
-use borrow.Author.Tests.{ltb-true, ltb-false}
-use lib.Dec.{eqb, ltb}
-use lib.ListN.{length, take, drop, length-append, length-take}
-use lib.Seq.{length-take-le, take-nil, take-take}
+use lib.Seq.{take-nil}
 use Rattle.decimal.proofs.Laws.{decimal_length}
 use Rattle.hexadecimal.proofs.Laws.{hex_length}
 use Rattle.frames.specs.Frames.{raw_of}
@@ -16,8 +10,8 @@ use Rattle.log_entries.specs.Entries.{Entry, entry}
 use Rattle.frame_lines.specs.declared.LineEntry.{LineEntry}
 use Rattle.frame_lines.specs.Lines.{joined, line_of, InForm}
 use Rattle.frame_lines.specs.Guess.{read_line}
-use Rattle.frame_log.specs.Logs.{lines_of, Reading, bad_line, line_read, read_from, reading}
-use Rattle.frame_log.specs.Logs.{line_length}
+use Rattle.frame_log.specs.declared.LogError.TheVariants.{BadLine}
+use Rattle.frame_log.specs.Logs.{lines_of, line_length, Reading, line_read, read_from, reading}
 use Rattle.frame_lines.proofs.Pages.{hex_short, kind_length}
 use Rattle.frame_lines.proofs.Theorems.{only_lines, only_in_form}
 use Rattle.frame_log.proofs.Reading.{line_le, line_some, lines_first}
@@ -39,15 +33,15 @@ line_short e f =
     let x = hex_length e.frame.data in
     simp length-append (omega arith)
 
-long_by : (t : Bool) (s : List ℕ) → (read_line s).ok ≡ t → 81 < length s → t ≡ false
-long_by true s h k =
-    let e : length s ≡ length (line_of (entry (read_line s).time (read_line s).frame)) = ap length (only_lines s h) in
-    let l = line_short (entry (read_line s).time (read_line s).frame) (only_in_form s h) in
+long_by : (x : Option LineEntry) (s : List ℕ) → read_line s ≡ x → 81 < length s → x ≡ None
+long_by (Some x) s h k =
+    let e : length s ≡ length (line_of (entry x.time x.frame)) = ap length (only_lines s x h) in
+    let l = line_short (entry x.time x.frame) (only_in_form s x h) in
     absurd (omega arith)
-long_by false s h k = refl
+long_by None s h k = refl
 
-long_bad : (s : List ℕ) → 81 < length s → (read_line s).ok ≡ false
-long_bad s h = long_by (read_line s).ok s refl h
+long_bad : (s : List ℕ) → 81 < length s → read_line s ≡ None
+long_bad s h = long_by (read_line s) s refl h
 
 -- ---- the first line of a text that is cut
 
@@ -80,14 +74,17 @@ drop_take (suc m) (suc n) (x ∷ xs) = drop_take m n xs ∙ ap (λ (k : ℕ). ta
 
 -- ---- one line and the rest
 
-told_bad : (n t : ℕ) (e : LineEntry) (r : Reading) → e.ok ≡ false → line_read n t e r ≡ bad_line (suc n)
-unfolding line_read
-told_bad n t e r h = rw h
+told_bad : (n t : ℕ) (x : Option LineEntry) (more : ℕ → Reading) → x ≡ None → line_read n t x more ≡ Err (BadLine (suc n))
+told_bad n t x more h = rw h
 
 -- line 513 is a fault, whatever stands behind it
-told_last : (t : ℕ) (e : LineEntry) (q r : Reading) → line_read 512 t e q ≡ line_read 512 t e r
-unfolding line_read
-told_last t e q r = refl
+told_last : (t : ℕ) (x : Option LineEntry) (q r : ℕ → Reading) → line_read 512 t x q ≡ line_read 512 t x r
+told_last t None q r = refl
+told_last t (Some e) q r = refl
+
+-- what is told of the lines of a text from its first line on
+rest_told : ℕ → List ℕ → ℕ → Reading
+rest_told n s u = read_from (suc n) u (lines_of s)
 
 some : (s : List ℕ) (n : ℕ) → 0 < n → 0 < length s → 0 < length (take n s)
 some s n h k = let l = length-take n s in omega arith
@@ -107,16 +104,16 @@ module _ (n t cut : ℕ) (s : List ℕ) (here : 0 < length s) (wide : 81 < cut) 
       let a = length-take-le k x (line_le x) in
       let b = length-take-le (line_length s) s (line_le s) in
       ap (read_from n t) (lines_first x (some s cut (omega arith) here))
-      ∙ (told_bad n t (read_line (take k x)) (read_from (suc n) (read_line (take k x)).time (lines_of (drop k x))) (long_bad (take k x) (omega arith))
-      ∙ (sym (told_bad n t (read_line (take (line_length s) s)) (read_from (suc n) (read_line (take (line_length s) s)).time (lines_of (drop (line_length s) s))) (long_bad (take (line_length s) s) (omega arith)))
+      ∙ (told_bad n t (read_line (take k x)) _ (long_bad (take k x) (omega arith))
+      ∙ (sym (told_bad n t (read_line (take (line_length s) s)) _ (long_bad (take (line_length s) s) (omega arith)))
       ∙ sym (ap (read_from n t) (lines_first s here))))
 
   -- a shorter one is the same in both, and the rest is cut by it
   short_line : line_length s ≤ 81
-      → ((u : ℕ) → line_read n t (read_line (take (line_length s) s)) (read_from (suc n) u (lines_of (take (cut - line_length s) (drop (line_length s) s))))
-      ≡ line_read n t (read_line (take (line_length s) s)) (read_from (suc n) u (lines_of (drop (line_length s) s))))
+      → line_read n t (read_line (take (line_length s) s)) (rest_told n (take (cut - line_length s) (drop (line_length s) s)))
+      ≡ line_read n t (read_line (take (line_length s) s)) (rest_told n (drop (line_length s) s))
       → read_from n t (lines_of (take cut s)) ≡ read_from n t (lines_of s)
-  unfolding read_from
+  unfolding read_from rest_told
   short_line h more =
       let x = take cut s in
       let l = line_length s in
@@ -124,16 +121,16 @@ module _ (n t cut : ℕ) (s : List ℕ) (here : 0 < length s) (wide : 81 < cut) 
       let f : take (line_length x) x ≡ take l s = ap (λ (k : ℕ). take k x) e ∙ take-take l cut s (omega arith) in
       let g : drop (line_length x) x ≡ take (cut - l) (drop l s) = ap (λ (k : ℕ). drop k x) e ∙ drop_take l cut s in
       ap (read_from n t) (lines_first x (some s cut (omega arith) here) ∙ ap₂ (λ (a b : List ℕ). a ∷ lines_of b) f g)
-      ∙ (more (read_line (take l s)).time ∙ sym (ap (read_from n t) (lines_first s here)))
+      ∙ (more ∙ sym (ap (read_from n t) (lines_first s here)))
 
 -- ---- all lines
 
 first_by : (b : Bool) (n t cut : ℕ) (s : List ℕ) → ltb 81 (line_length s) ≡ b → 0 < length s → 81 < cut
-    → ((u : ℕ) → line_length s ≤ 81 → line_read n t (read_line (take (line_length s) s)) (read_from (suc n) u (lines_of (take (cut - line_length s) (drop (line_length s) s))))
-    ≡ line_read n t (read_line (take (line_length s) s)) (read_from (suc n) u (lines_of (drop (line_length s) s))))
+    → (line_length s ≤ 81 → line_read n t (read_line (take (line_length s) s)) (rest_told n (take (cut - line_length s) (drop (line_length s) s)))
+    ≡ line_read n t (read_line (take (line_length s) s)) (rest_told n (drop (line_length s) s)))
     → read_from n t (lines_of (take cut s)) ≡ read_from n t (lines_of s)
 first_by true n t cut s e here wide more = long_line n t cut s here wide (ltb-true 81 (line_length s) e)
-first_by false n t cut s e here wide more = let h = ltb-false 81 (line_length s) e in short_line n t cut s here wide h (λ u. more u h)
+first_by false n t cut s e here wide more = let h = ltb-false 81 (line_length s) e in short_line n t cut s here wide h (more h)
 
 at_all : (n t cut : ℕ) (s : List ℕ) → (0 < length s → read_from n t (lines_of (take cut s)) ≡ read_from n t (lines_of s)) → read_from n t (lines_of (take cut s)) ≡ read_from n t (lines_of s)
 at_all n t cut [] f = ap (λ (x : List ℕ). read_from n t (lines_of x)) (take-nil cut)
@@ -141,12 +138,13 @@ at_all n t cut (x ∷ xs) f = f (omega arith)
 
 -- k more lines may come before line 513
 bounded : (k n t cut : ℕ) (s : List ℕ) → n + k ≡ 512 → suc k * 81 < cut → read_from n t (lines_of (take cut s)) ≡ read_from n t (lines_of s)
+unfolding rest_told
 bounded zero n t cut s e h =
     let m : n ≡ 512 = omega arith in
-    at_all n t cut s (λ here. first_by (ltb 81 (line_length s)) n t cut s refl here (omega arith) (λ u l. rw m (told_last t _ _ _)))
+    at_all n t cut s (λ here. first_by (ltb 81 (line_length s)) n t cut s refl here (omega arith) (λ l. rw m (told_last t _ _ _)))
 bounded (suc k) n t cut s e h =
     at_all n t cut s (λ here. first_by (ltb 81 (line_length s)) n t cut s refl here (omega arith)
-    (λ u l. ap (line_read n t (read_line (take (line_length s) s))) (bounded k (suc n) u (cut - line_length s) (drop (line_length s) s) (omega arith) (omega arith))))
+    (λ l. ap (line_read n t (read_line (take (line_length s) s))) (fun_ext (λ u. bounded k (suc n) u (cut - line_length s) (drop (line_length s) s) (omega arith) (omega arith)))))
 
 -- 513 lines of 81 bytes, and one byte more
 pub first_bytes : (cut : ℕ) (s : List ℕ) → 41553 < cut → reading (take cut s) ≡ reading s

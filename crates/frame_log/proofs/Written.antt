@@ -1,12 +1,5 @@
 -- A log that is written line by line from entries in form, at most 512 of them and with times that never fall, is read as these.
-use mathlib.Core.Path.{◌≡◌, refl, ap, sym, ◌∙◌}
-use mathlib.Core.Bool.{Bool, true, false, cond}
-use mathlib.Core.List.{List, [], ◌∷◌, ◌++◌, map, append_assoc}
-use Prim.Native.Nat.{ℕ, suc, ◌+◌, ◌≤◌, ◌<◌}
-use native.Mathlib.Omega.{arith}
-use borrow.Author.Tests.{lt-ltb, le-ltb}
-use lib.Dec.{eqb}
-use lib.ListN.{length}
+use Rattle.std.proofs.Common.{◌≡◌, refl, ap, sym, ◌∙◌, Bool, true, false, cond, List, [], ◌∷◌, ◌++◌, map, append_assoc, ℕ, suc, ◌+◌, ◌≤◌, ◌<◌, arith, lt-ltb, le-ltb, eqb, length, Ok}
 use Rattle.ascii.specs.Ascii.{ascii}
 use Rattle.decimal.specs.Decimal.{decimal_of}
 use Rattle.hexadecimal.specs.Hex.{hex_of}
@@ -17,7 +10,7 @@ use Rattle.log_entries.specs.Entries.{Entry}
 use Rattle.matcher.proofs.Times.{Rising}
 use Rattle.word_table.specs.Words.{before, onto}
 use Rattle.frame_lines.specs.Lines.{joined, hexadecimal_of, kind_of, line_of, InForm}
-use Rattle.frame_log.specs.Logs.{lines_of, read, line_read, read_from, reading}
+use Rattle.frame_log.specs.Logs.{lines_of, read_from, reading}
 use Rattle.frame_lines.proofs.Pages.{joined_append}
 use Rattle.frame_lines.proofs.Words.{Without, without_append}
 use Rattle.frame_lines.proofs.Numbers.{decimal_free, hex_free, bytes_free}
@@ -87,17 +80,17 @@ lines_written e es =
     ∙ (ap lines_of (append_assoc (joined (body e)) (10 ∷ []) r)
     ∙ (first_line (joined (body e)) r (body_free e) ∙ ap (λ (l : List ℕ). l ∷ lines_of r) (sym (line_is e))))
 
-nothing : (n t : ℕ) → read_from n t (lines_of (joined [])) ≡ read []
+nothing : (n t : ℕ) → read_from n t (lines_of (joined [])) ≡ Ok []
 unfolding read_from lines_of joined
 nothing n t = refl
 
-written_from : (n t : ℕ) (es : List Entry) → AllInForm es → Rising t es → n + length es ≤ 512 → read_from n t (lines_of (joined (map line_of es))) ≡ read es
-unfolding AllInForm Rising read_from line_read
+written_from : (n t : ℕ) (es : List Entry) → AllInForm es → Rising t es → n + length es ≤ 512 → read_from n t (lines_of (joined (map line_of es))) ≡ Ok es
+unfolding AllInForm Rising read_from
 written_from n t [] f r h = nothing n t
 written_from n t (e ∷ es) f r h =
     ap (read_from n t) (lines_written e es)
     ∙ rw (every_line e f.0, le-ltb e.time t r.0, lt-ltb n 512 (omega arith), written_from (suc n) e.time es f.1 r.1 (omega arith))
 
-pub every_log : (es : List Entry) → AllInForm es → Rising 0 es → length es ≤ 512 → reading (joined (map line_of es)) ≡ read es
+pub every_log : (es : List Entry) → AllInForm es → Rising 0 es → length es ≤ 512 → reading (joined (map line_of es)) ≡ Ok es
 unfolding reading
 every_log es f r h = written_from 0 0 es f r (omega arith)

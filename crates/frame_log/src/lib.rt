@@ -1,85 +1,58 @@
 // A log: its lines one after the other, each behind the byte 10 of the one before it.
 #![tactic(auto)]
 
-ghost use Rattle.std.specs.Prelude.{◌≡◌, [], ◌+◌, ◌<◌, length, drop};
-ghost use Rattle.frame_log.specs.Logs.{log_read, read_log, line_length};
+ghost use Rattle.std.specs.Prelude.{◌≡◌};
+ghost use Rattle.frame_log.specs.Logs.{read_log, line_length};
 
 use matcher::FrameLog;
 
-#[derive(Clone, Copy)]
-pub enum LogAnswer {
-    Read,
+// Why a log is refused. Lines count from 1.
+#[derive(Clone, Copy, PartialEq, Eq)]
+pub enum LogError {
     BadLine(usize),
     TimeBack(usize),
     TooManyLines,
 }
 
-// The frames of a log and their times; zeros past the count. Refused: no frame.
+// The frames of a log and their times; zeros past the count.
 #[derive(Clone, Copy)]
 pub struct ReadLog {
-    pub answer: LogAnswer,
     pub log: FrameLog,
     pub times: [u64; 512],
 }
 
-// The place after the line at `at`; the end of the text if it has no byte 10.
-fn line_end(s: &[u8], at: usize) -> usize
-    requires { at < length s.now }
-    ensures { result ≡ at + line_length (drop at s.now) }
+// How many bytes the first line has: all, if no byte 10 ends it.
+fn line_length(s: &[u8]) -> usize
+    ensures { result ≡ line_length s.now }
 {
-    let e = replay_script::find(s, at, 10);
-    if e < s.len() {
-        return e + 1;
-    }
-    s.len()
-}
-
-fn refused(answer: LogAnswer) -> ReadLog
-    ensures { result ≡ log_read answer [] }
-{
-    let f = frame_lines::empty_frame();
-    let frames = [f; 512];
-    let times = [0u64; 512];
-    let log = FrameLog { frames, count: 0 };
-    ReadLog { answer, log, times }
+    let end = replay_script::find(s, 0, b'\n');
+    if end < s.len() { end + 1 } else { s.len() }
 }
 
 // The frames and times of a log, or the first line at fault: 36, 37, 38, in this order on one line.
-pub fn read_log(s: &[u8]) -> ReadLog
+pub fn read_log(s: &[u8]) -> Result<ReadLog, LogError>
     ensures { result ≡ read_log s.now }
 {
-    let f = frame_lines::empty_frame();
-    let mut frames = [f; 512];
-    let mut times = [0u64; 512];
+    let mut frames = [frame_lines::empty_frame(); 512];
+    let mut times = [0; 512];
     let mut n = 0;
-    let mut at = 0;
     let mut last = 0;
-    while at < s.len() {
-        let end = line_end(s, at);
-        let e = frame_lines::read_line(&s[at..end]);
-        if e.ok {
-            let t = e.time;
-            if t < last {
-                return refused(LogAnswer::TimeBack(n + 1));
-            }
-            if n < 512 {
-                let frame = e.frame;
-                frames[n] = frame;
-                times[n] = t;
-                last = t;
-                n += 1;
-                at = end;
-            } else {
-                return refused(LogAnswer::TooManyLines);
-            }
-        } else {
-            return refused(LogAnswer::BadLine(n + 1));
+    let mut rest = s;
+    while !rest.is_empty() {
+        let (line, more) = rest.split_at(line_length(rest));
+        let entry = frame_lines::read_line(line).ok_or(LogError::BadLine(n + 1))?;
+        if entry.time < last {
+            return Err(LogError::TimeBack(n + 1));
         }
+        if n >= 512 {
+            return Err(LogError::TooManyLines);
+        }
+        frames[n] = entry.frame;
+        times[n] = entry.time;
+        n += 1;
+        last = entry.time;
+        rest = more;
     }
     let log = FrameLog { frames, count: n };
-    ReadLog {
-        answer: LogAnswer::Read,
-        log,
-        times,
-    }
+    Ok(ReadLog { log, times })
 }

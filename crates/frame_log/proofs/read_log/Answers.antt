@@ -1,65 +1,41 @@
-use mathlib.Core.Path.{◌∙◌}
-use native.Mathlib.Omega.{arith}
-use Rattle.frame_log.proofs.Reading.{line_inside, kept_start, kept_end, kept_bad, kept_back, kept_over, kept_again}
+use Rattle.std.proofs.Common.{◌≡◌, ◌+◌, ◌<◌, length, ◌∙◌, Err, arith, rules, tests}
+use Rattle.frame_log.specs.declared.LogError.TheVariants.{BadLine}
+use Rattle.frame_log.proofs.Reading.{line_le, line_some, kept_start, kept_end, kept_bad, kept_back, kept_over, kept_again}
 use Rattle.frame_log.proofs.read_log.Goals as goal
 
-pub loop-at-init : goal.loop-at-init
-loop-at-init c = kept_start c.args.s.now c.empty_frame-f.result c.empty_frame-f.ensures
+pub loop-rest-init : goal.loop-rest-init
+loop-rest-init c = kept_start c.args.s.now c.empty_frame-frames.result c.empty_frame-frames.ensures
 
-pub line_end-end-requires : goal.line_end-end-requires
-line_end-end-requires c = c.loop-at-test.true
+pub split_at-requires : goal.split_at-requires
+split_at-requires c = omega (arith, line_le c.loop-rest.rest.now, c.line_length.ensures)
 
-pub slice_bounds-read_line-count : goal.slice_bounds-read_line-count
-slice_bounds-read_line-count c = let w = line_inside c.args.s.now c.loop-at.at c.line_end-end.result c.line_end-end.ensures c.loop-at-test.true in omega arith
+pub returns-in_err-entry : goal.returns-in_err-entry
+returns-in_err-entry c =
+    let some : 0 < length c.loop-rest.rest.now = search (rules, tests) in
+    let fault : c.from_residual.result ≡ Err (BadLine (c.loop-rest.n + 1)) = search rules in
+    fault ∙ kept_bad _ _ _ _ _ _ c.loop-rest.invariant some _ c.line_length.ensures _ _ c.split_at.ensures.front c.split_at.ensures.back _ c.read_line.ensures c.in_err-entry.ensures.ok_part
 
-pub slice_bounds-read_line-start : goal.slice_bounds-read_line-start
-slice_bounds-read_line-start c = let w = line_inside c.args.s.now c.loop-at.at c.line_end-end.result c.line_end-end.ensures c.loop-at-test.true in omega arith
+pub returns-then-entry-last : goal.returns-then-entry-last
+returns-then-entry-last c =
+    let some : 0 < length c.loop-rest.rest.now = search (rules, tests) in
+    kept_back _ _ _ _ _ _ c.loop-rest.invariant some _ c.line_length.ensures _ _ c.split_at.ensures.front c.split_at.ensures.back _ c.read_line.ensures _ c.in_ok-entry.ensures.ok_part c.if-entry-last.true
 
-pub slice_bounds-read_line-end : goal.slice_bounds-read_line-end
-slice_bounds-read_line-end c = (line_inside c.args.s.now c.loop-at.at c.line_end-end.result c.line_end-end.ensures c.loop-at-test.true).1
+pub returns-then-n-ge512 : goal.returns-then-n-ge512
+returns-then-n-ge512 c =
+    let some : 0 < length c.loop-rest.rest.now = search (rules, tests) in
+    kept_over _ _ _ _ _ _ c.loop-rest.invariant some _ c.line_length.ensures _ _ c.split_at.ensures.front c.split_at.ensures.back _ c.read_line.ensures _ c.in_ok-entry.ensures.ok_part c.if-entry-last.false c.if-n-ge512.true
 
-pub overflow_add-n : goal.overflow_add-n
-overflow_add-n c = let h = c.loop-at.invariant.few in omega arith
+pub loop-rest-preserved : goal.loop-rest-preserved
+loop-rest-preserved c =
+    let some : 0 < length c.loop-rest.rest.now = search (rules, tests) in
+    kept_again _ _ _ _ _ _ c.loop-rest.invariant some _ c.line_length.ensures _ _ c.split_at.ensures.front c.split_at.ensures.back _ c.read_line.ensures _ c.in_ok-entry.ensures.ok_part c.if-entry-last.false c.if-n-ge512.false
 
-pub returns-then-t-last : goal.returns-then-t-last
-returns-then-t-last c =
-    let s = c.args.s.now in
-    let l = c.loop-at in
-    let w = c.line_end-end in
-    let e = c.read_line-e in
-    c.refused.ensures ∙ (kept_back s l.frames l.times l.n l.at l.last l.invariant w.result w.ensures c.loop-at-test.true e.result e.ensures c.if-e.true c.if-t-last.true)
-
-pub loop-at-smaller : goal.loop-at-smaller
-loop-at-smaller c = let w = line_inside c.args.s.now c.loop-at.at c.line_end-end.result c.line_end-end.ensures c.loop-at-test.true in omega arith
-
-pub loop-at-preserved : goal.loop-at-preserved
-loop-at-preserved c =
-    let s = c.args.s.now in
-    let l = c.loop-at in
-    let w = c.line_end-end in
-    let e = c.read_line-e in
-    (kept_again s l.frames l.times l.n l.at l.last l.invariant w.result w.ensures c.loop-at-test.true e.result e.ensures c.if-e.true c.if-t-last.false c.if-n-lt512.true)
-
-pub returns-else-n-lt512 : goal.returns-else-n-lt512
-returns-else-n-lt512 c =
-    let s = c.args.s.now in
-    let l = c.loop-at in
-    let w = c.line_end-end in
-    let e = c.read_line-e in
-    c.refused-else-n-lt512.ensures ∙ (kept_over s l.frames l.times l.n l.at l.last l.invariant w.result w.ensures c.loop-at-test.true e.result e.ensures c.if-e.true c.if-t-last.false c.if-n-lt512.false)
-
-pub overflow_add-n-else-e : goal.overflow_add-n-else-e
-overflow_add-n-else-e c = let h = c.loop-at.invariant.few in omega arith
-
-pub returns-else-e : goal.returns-else-e
-returns-else-e c =
-    let s = c.args.s.now in
-    let l = c.loop-at in
-    let w = c.line_end-end in
-    let e = c.read_line-e in
-    c.refused-else-e.ensures ∙ (kept_bad s l.frames l.times l.n l.at l.last l.invariant w.result w.ensures c.loop-at-test.true e.result e.ensures c.if-e.false)
+pub loop-rest-smaller : goal.loop-rest-smaller
+loop-rest-smaller c =
+    let some : 0 < length c.loop-rest.rest.now = search (rules, tests) in
+    omega (arith, line_some c.loop-rest.rest.now some, c.line_length.ensures, c.split_at.ensures.back_len)
 
 pub returns : goal.returns
 returns c =
-    let l = c.loop-at in
-    kept_end c.args.s.now l.frames l.times l.n l.at l.last l.invariant c.loop-at-test.false
+    let none : length c.loop-rest.rest.now ≡ 0 = search (rules, tests) in
+    kept_end _ _ _ _ _ _ c.loop-rest.invariant none
