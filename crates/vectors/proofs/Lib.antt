@@ -1,3 +1,4 @@
 pub mod Repeated
 pub mod Vectors
 pub mod Cut
+pub mod Counted

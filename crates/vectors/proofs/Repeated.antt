@@ -1,9 +1,6 @@
 -- The hash value of a byte that is repeated, some blocks at a time.
-use mathlib.Core.List.{List, [], ◌++◌, append-nil}
-use mathlib.Core.Path.{◌≡◌, refl, sym, ap, ap₂, ◌∙◌}
-use Prim.Native.Nat.{ℕ, ◌+◌, ◌*◌, ◌/◌}
-use native.Mathlib.Omega.{arith}
-use lib.ListN.{length, replicate, length-replicate, replicate-append-replicate}
+use Rattle.std.proofs.Common.{◌≡◌, refl, sym, ap, ap₂, ◌∙◌, ℕ, ◌+◌, ◌*◌, ◌/◌, List, [], ◌++◌, append-nil, length, replicate, arith}
+use Rattle.std.proofs.lemmas.List.{length-replicate, replicate-append-replicate}
 use Rattle.sha256.proofs.Pieces.{hash_from_append, cut_at_a_block}
 use Rattle.sha256.specs.Sha256.{hash_from, H₀, finished, sha256}
 

@@ -1,6 +1,5 @@
 -- The definition at the worked examples of FIPS 180-4: antt computes each.
-use mathlib.Core.List.{[], ◌∷◌}
-use mathlib.Core.Path.{◌≡◌, refl}
+use Rattle.std.proofs.Common.{◌≡◌, refl, [], ◌∷◌}
 use Rattle.sha256_block.specs.Block.{W, K, rounds}
 use Rattle.sha256.specs.Sha256.{sha256, pad_last, hash_from}
 

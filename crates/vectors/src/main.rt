@@ -8,18 +8,14 @@ ghost use Rattle.std.specs.Prelude.{◌≡◌, ◌+◌, ◌≤◌, length, repli
 ghost use Rattle.sha256.specs.Sha256 as Sha;
 ghost use Rattle.vectors.specs.Counted.{counted};
 
-use arrays::same_bytes;
 use car_digest::car_digest;
 use sha256::{block_count, finish, hash_blocks, initial, sha256, sha256_of_two};
 use std::io;
 
 // Ends a line.
 fn digest(out: &impl Print, d: [u8; 32]) -> io::Result<()> {
-    let mut i = 0;
-    while i < 32 {
-        let b = d[i];
+    for b in d {
         print!(out; "{b:02x}")?;
-        i += 1;
     }
     println!(out; "")
 }
@@ -36,17 +32,12 @@ fn cuts(m: &[u8]) -> usize
     ensures { result ≡ length m.now + 1 }
 {
     let whole = sha256(m);
-    let n = m.len() + 1;
-    let mut i = 0;
-    while i < n {
-        let d = sha256_of_two(&m[..i], &m[i..]);
-        if same_bytes(&d, &whole) {
-            i += 1;
-        } else {
+    for i in 0..=m.len() {
+        if sha256_of_two(&m[..i], &m[i..]) != whole {
             return i;
         }
     }
-    i
+    m.len() + 1
 }
 
 fn message(out: &impl Print, name: &str, m: &[u8]) -> io::Result<()>
@@ -63,11 +54,9 @@ fn million() -> [u8; 32]
 {
     let b = [b'a'; 1600];
     let mut h = initial();
-    let mut i: usize = 0;
-    while i < 625 {
-        let g = hash_blocks(h, &b);
-        h = g;
-        i += 1;
+    for _ in 0..625u32 {
+        let next = hash_blocks(h, &b);
+        h = next;
     }
     finish(h, b"", 1_000_000)
 }
@@ -76,13 +65,7 @@ fn million() -> [u8; 32]
 fn body() -> [u8; 4126]
     ensures { result ≡ counted 4126 }
 {
-    let mut b = [0u8; 4126];
-    let mut i = 0;
-    while i < 4126 {
-        b[i] = (i % 251) as u8;
-        i += 1;
-    }
-    b
+    std::array::from_fn(|i| (i % 251) as u8)
 }
 
 // The car digest of a platform and the first `n` bytes of `b`.
@@ -90,14 +73,13 @@ fn car(out: &impl Print, platform: u32, b: &[u8], n: usize) -> io::Result<()>
     requires { n ≤ length b.now }
 {
     print!(out; "car platform={platform} bytes={n}")?;
-    let r = car_digest(platform, &b[..n]);
-    if r.ok {
-        let blocks = block_count(30 + n as u64);
-        print!(out; " blocks={blocks}")?;
-        let d = r.digest;
-        line(out, " digest=", d)
-    } else {
-        out.println(" refused")
+    match car_digest(platform, &b[..n]) {
+        Some(d) => {
+            let blocks = block_count(30 + n as u64);
+            print!(out; " blocks={blocks}")?;
+            line(out, " digest=", d)
+        }
+        None => out.println(" refused"),
     }
 }
 

@@ -1,17 +1,12 @@
-use mathlib.Core.Bool.{false≢true}
-use mathlib.Core.Path.{sym, ◌∙◌}
-use native.Mathlib.Omega.{arith}
-use lib.Seq.{length-take-le}
+-- No cut gives another digest.
+use Rattle.std.proofs.Common.{sym, ap, ◌∙◌, not}
+use Rattle.std.proofs.lemmas.Bool.{false≢true}
+use Rattle.std.proofs.lemmas.Slice.Eq.{bytes_eq-Decides}
 use Rattle.vectors.proofs.Cut.{same_cut}
 use Rattle.vectors.proofs.cuts.Goals as goal
 
-pub slice_bounds-sha256_of_two-end : goal.slice_bounds-sha256_of_two-end
-slice_bounds-sha256_of_two-end c = sym (length-take-le _ _ (omega arith))
-
-pub returns-else-same_bytes : goal.returns-else-same_bytes
-returns-else-same_bytes c =
-    let a = c.args in
-    absurd
-    (false≢true
-    (sym c.if-same_bytes.false
-    ∙ same_cut a.m.now c.loop-i.i c.requires c.loop-i-test.true c.sha256-whole.ensures c.sha256_of_two-d.ensures c.same_bytes.ensures))
+pub returns-then-ne : goal.returns-then-ne
+returns-then-ne c =
+    let same = (bytes_eq-Decides c.sha256_of_two.result c.sha256-whole.result).1
+    (same_cut c.args.m.now c.loop-i.i c.requires c.loop-i-test.true c.sha256-whole.ensures c.sha256_of_two.ensures) in
+    absurd (false≢true (sym (ap not same) ∙ sym c.ne.ensures ∙ c.if-ne.true))
