@@ -5,9 +5,6 @@ ghost use Rattle.std.specs.Prelude.{◌≡◌, ◌^◌, ◌≤◌};
 ghost use Rattle.arrays.specs.Arrays.{padded};
 ghost use Rattle.draw.specs.Draw.{first_below, digits, drawn};
 
-// The largest value of a group.
-const M: u32 = 4_294_967_295;
-
 // The first whole group below the limit.
 fn first_below(s: &[u8], limit: u32) -> Option<u32>
     ensures { result ≡ first_below limit s.now }
@@ -47,6 +44,6 @@ pub fn draw(random: &[u8], n: usize) -> Option<[u8; 9]>
         return None;
     }
     let space = 10u32.pow(n as u32);
-    let v = first_below(random, M - M % space)?;
+    let v = first_below(random, u32::MAX - u32::MAX % space)?;
     Some(code_of(v % space, n))
 }

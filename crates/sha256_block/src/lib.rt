@@ -154,7 +154,8 @@ fn plus(v: [u32; 8], s: [u32; 8]) -> [u32; 8]
     std::array::from_fn(|i| v[i].wrapping_add(s[i]))
 }
 
-// The hash value after block `i` of `m`, where `h` is the one before it.
+// The hash value after block `i` of `m`, where `h` is the one before it. A block is named by `m` and `i`, as in `M` of
+// specs/Block.antt.
 pub fn compress(h: [u32; 8], m: &[u8], i: usize) -> [u32; 8]
     requires { 64 * i + 64 ≤ length m.now }
     ensures { result ≡ plus (rounds (W (M m.now i) 64) h 64) h }
