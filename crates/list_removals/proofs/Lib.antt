@@ -1,3 +1,2 @@
 pub mod Marks
-pub mod Turns
-pub mod Moving
+pub mod Kept

@@ -1,25 +1,30 @@
--- Removal by marks: which marks each removal makes, and the step of the loops that mark.
-use mathlib.Core.Path.{◌≡◌, refl, ap, sym}
-use mathlib.Core.Bool.{Bool, true, false, cond, not}
-use mathlib.Core.List.{List, [], ◌∷◌, ◌++◌, map, map-append}
-use Prim.Native.Nat.{ℕ, zero, suc, ◌+◌, ◌<◌, ◌≤◌}
-use native.Mathlib.Numerals.{add-one}
-use native.Mathlib.Omega.{arith}
-use lib.ListN.{length, take, get_or, set, replicate, length-map, length-take}
-use lib.Seq.{take-suc}
-use Rattle.arrays.specs.Arrays.{padded, same_bytes}
-use Rattle.arrays.proofs.Laws.{padded_push}
-use Rattle.phones.specs.Ids.{kept, keep_where, contains, remove_first, remove_all, retain_in}
-use Rattle.phones.specs.Steps.{first_at}
-use Rattle.list_removals.specs.Marks.{marked, all_but}
+-- Removal by marks: which marks each removal makes.
+use Rattle.std.proofs.Common.{◌≡◌, refl, ap, sym, ◌∙◌, ℕ, zero, suc, ◌+◌, ◌<◌, ◌≤◌, arith, Bool, true, false, cond, not, List, [], ◌∷◌, map, length, get_or, set, replicate, Option, Some, None, ltb, eqb, get_or-set_other, get_or-set_same}
+use borrow.Author.Tests.{ltb-false, eqb-true, eqb-false}
+use lib.Seq.{set_out}
+use lib.ListN.{get_or-replicate, length-replicate}
+use Rattle.std.specs.Prelude.{position}
+use Rattle.std.specs.List.{position_or_len}
+use Rattle.arrays.specs.Arrays.{same_bytes}
+use Rattle.phones.specs.Ids.{kept, keep_where, remove_first}
 
--- ---- the removals by their marks
+-- ---- by a test of the id
 
--- what is marked by a test is what passes it, whatever the marks are past the list
-keep_marked : {A : Type 0} (f : A → Bool) (xs : List A) (ms : List Bool) → keep_where (map f xs ++ ms) xs ≡ kept f xs
+pub keep_marked : {A : Type 0} (f : A → Bool) (xs : List A) → keep_where (map f xs) xs ≡ kept f xs
 unfolding keep_where kept
-keep_marked f [] ms = refl
-keep_marked f (x ∷ xs) ms = rw (keep_marked f xs ms)
+keep_marked f [] = refl
+keep_marked f (x ∷ xs) = rw (keep_marked f xs)
+
+pub marked_at : (f : List ℕ → Bool) (ps : List (List ℕ)) (i : ℕ) → i < length ps → f (get_or ps i []) ≡ get_or (map f ps) i false
+marked_at f [] i h = absurd (omega arith)
+marked_at f (p ∷ ps) zero h = refl
+marked_at f (p ∷ ps) (suc i) h = marked_at f ps i (omega arith)
+
+-- ---- the first that is a string
+
+-- every place but one
+abbrev pub all_but : ℕ → List Bool
+all_but k = set (replicate 32 true) k false
 
 keep_all : {A : Type 0} (n : ℕ) (xs : List A) → length xs ≤ n → keep_where (replicate n true) xs ≡ xs
 unfolding keep_where
@@ -27,38 +32,48 @@ keep_all n [] h = refl
 keep_all zero (x ∷ xs) h = absurd (omega arith)
 keep_all {A = A} (suc n) (x ∷ xs) h = ap (λ (ys : List A). x ∷ ys) (keep_all n xs (omega arith))
 
-keep_first : (n : ℕ) (s : List ℕ) (ps : List (List ℕ)) → length ps ≤ n → keep_where (set (replicate n true) (first_at s ps) false) ps ≡ remove_first s ps
-unfolding keep_where first_at remove_first
+keep_first : (n : ℕ) (s : List ℕ) (ps : List (List ℕ)) → length ps ≤ n → keep_where (set (replicate n true) (position_or_len (λ p. same_bytes p s) ps) false) ps ≡ remove_first s ps
+unfolding keep_where remove_first
 keep_first n s [] h = refl
 keep_first zero s (p ∷ ps) h = absurd (omega arith)
 keep_first (suc n) s (p ∷ ps) h = go (same_bytes p s) (keep_first n s ps (omega arith))
   where
-    go : (t : Bool) → keep_where (set (replicate n true) (first_at s ps) false) ps ≡ remove_first s ps
-        → keep_where (set (true ∷ replicate n true) (cond t 0 (suc (first_at s ps))) false) (p ∷ ps) ≡ cond t ps (p ∷ remove_first s ps)
+    at : ℕ
+    at = position_or_len (λ q. same_bytes q s) ps
+
+    go : (t : Bool) → keep_where (set (replicate n true) at false) ps ≡ remove_first s ps
+        → keep_where (set (true ∷ replicate n true) (cond (not t) (1 + at) 0) false) (p ∷ ps) ≡ cond t ps (p ∷ remove_first s ps)
     go true e = keep_all n ps (omega arith)
-    go false e = ap (λ (qs : List (List ℕ)). p ∷ qs) e
+    go false e = let one : 1 + at ≡ suc at = omega arith in rw one (ap (λ (qs : List (List ℕ)). p ∷ qs) e)
 
-pub first_marks : (s : List ℕ) (ps : List (List ℕ)) → length ps ≤ 32 → remove_first s ps ≡ keep_where (all_but (first_at s ps)) ps
-unfolding all_but
-first_marks s ps h = sym (keep_first 32 s ps h)
+at_some : (k n first : ℕ) → Some first ≡ cond (ltb k n) (Some k) None → first ≡ k
+at_some k n first e = go (ltb k n) e
+  where
+    go : (t : Bool) → Some first ≡ cond t (Some k) None → first ≡ k
+    go true h = cc
+    go false h = cc
 
-pub all_marks : (s : List ℕ) (ps : List (List ℕ)) → remove_all s ps ≡ keep_where (marked (λ (p : List ℕ). not (same_bytes p s)) ps) ps
-unfolding remove_all marked padded
-all_marks s ps = sym (keep_marked (λ (p : List ℕ). not (same_bytes p s)) ps _)
+at_none : (k n : ℕ) → ◌≡◌ {A = Option ℕ} None (cond (ltb k n) (Some k) None) → n ≤ k
+at_none k n e = go (ltb k n) refl e
+  where
+    go : (t : Bool) → ltb k n ≡ t → ◌≡◌ {A = Option ℕ} None (cond t (Some k) None) → n ≤ k
+    go true f h = absurd (let z : ◌≡◌ {A = Option ℕ} None (Some k) = h in cc)
+    go false f h = ltb-false k n f
 
-pub retain_marks : (os ps : List (List ℕ)) → retain_in os ps ≡ keep_where (marked (λ (p : List ℕ). contains p os) ps) ps
-unfolding retain_in marked padded
-retain_marks os ps = sym (keep_marked (λ (p : List ℕ). contains p os) ps _)
+pub none_removed : (s : List ℕ) (ps : List (List ℕ)) → ◌≡◌ {A = Option ℕ} None (position (λ p. same_bytes p s) ps) → remove_first s ps ≡ ps
+none_removed s ps e =
+    let k : ℕ = position_or_len (λ p. same_bytes p s) ps in
+    let past : length ps ≤ k = at_none k (length ps) e in
+    let out = set_out (replicate (length ps) true) k false (rw length-replicate past) in
+    sym (keep_first (length ps) s ps (omega arith)) ∙ rw out (keep_all (length ps) ps (omega arith))
 
--- ---- the loop that marks: the first i ids are marked
+-- the mark of each place but the first that is the string
+pub all_but_at : (s : List ℕ) (ps : List (List ℕ)) (i first : ℕ) → Some first ≡ position (λ p. same_bytes p s) ps → i < 32 → not (eqb i first) ≡ get_or (all_but first) i false
+all_but_at s ps i first e h = go (eqb i first) refl
+  where
+    go : (t : Bool) → eqb i first ≡ t → not t ≡ get_or (all_but first) i false
+    go true k = rw (← eqb-true i first k) (sym (get_or-set_same (replicate 32 true) i false false h))
+    go false k = sym (get_or-set_other (replicate 32 true) first i false false (eqb-false i first k) ∙ get_or-replicate 32 i true false h)
 
-pub marked_none : (f : List ℕ → Bool) → replicate 32 false ≡ marked f []
-unfolding marked padded
-marked_none f = refl
-
-pub marked_more : (f : List ℕ → Bool) (ps : List (List ℕ)) (i : ℕ) (keep : List Bool) (t : Bool) → keep ≡ marked f (take i ps) → i < length ps → i < 32 → t ≡ f (get_or ps i [])
-    → set keep i t ≡ marked f (take (i + 1) ps)
-unfolding marked
-marked_more f ps i keep t e h k g =
-    let m : length (map f (take i ps)) ≡ i = rw (length-map, length-take) (omega arith) in
-    rw (e, g, add-one, take-suc ps i [] h, map-append, ← padded_push 32 false (f (get_or ps i [])) (map f (take i ps)) (omega arith), m)
+pub first_marks : (s : List ℕ) (ps : List (List ℕ)) (first : ℕ) → Some first ≡ position (λ p. same_bytes p s) ps → length ps ≤ 32 → remove_first s ps ≡ keep_where (all_but first) ps
+first_marks s ps first e h = rw (at_some (position_or_len (λ p. same_bytes p s) ps) (length ps) first e) (sym (keep_first 32 s ps h))

@@ -4,8 +4,8 @@ use mathlib.Core.List.{List, [], ◌∷◌, ◌++◌, append_assoc, append-nil}
 use Prim.Native.Nat.{ℕ, suc, ◌+◌, ◌≤◌, ◌<◌}
 use native.Mathlib.Numerals.{add-one}
 use native.Mathlib.Omega.{arith}
-use lib.ListN.{length, take, drop, get_or, set, take-append-drop, length-append}
-use lib.Seq.{take_all, take-suc, take-suc-set, drop-drop, drop-set-lt}
+use lib.ListN.{length, take, drop, set, take-append-drop, length-append}
+use lib.Seq.{take-suc-set, drop-drop, drop-set-lt}
 use Rattle.arrays.specs.Arrays.{put}
 use Rattle.arrays.proofs.Laws.{put_take, put_drop, put_length}
 use Rattle.phone_fields.specs.PhoneFields.{field, fields}
@@ -49,35 +49,31 @@ fields_one : (p : List ℕ) → fields (p ∷ []) ≡ field p
 unfolding fields
 fields_one p = append-nil (field p)
 
--- the first i phones take no more than all
-fields_first : (i : ℕ) (ps : List (List ℕ)) → length (fields (take i ps)) ≤ length (fields ps)
-fields_first i ps =
-    let e : fields ps ≡ fields (take i ps) ++ fields (drop i ps) = ap fields (sym (take-append-drop i ps)) ∙ fields_append (take i ps) (drop i ps) in
-    rw (e, length-append) (omega arith)
-
--- where the loop stands: the first i phones are written from a place on
-pub record Written (ps : List (List ℕ)) (old bytes : List ℕ) (from at i : ℕ) : Type 0 where
-  pub upto : i ≤ length ps
-  pub place : at ≡ from + length (fields (take i ps))
+-- where the loop stands: of the phones ps those are written from a place on that are not left
+pub record Written (ps left : List (List ℕ)) (old bytes : List ℕ) (from at : ℕ) : Type 0 where
+  pub done : List (List ℕ)
+  pub all : ps ≡ done ++ left
+  pub place : at ≡ from + length (fields done)
   pub long : length bytes ≡ length old
-  pub holds : bytes ≡ put old from (fields (take i ps))
+  pub holds : bytes ≡ put old from (fields done)
 
-pub written_none : (ps : List (List ℕ)) (old : List ℕ) (from : ℕ) → Written ps old old from from 0
+pub written_none : (ps : List (List ℕ)) (old : List ℕ) (from : ℕ) → Written ps ps old old from from
 unfolding fields put
 written_none ps old from =
     let z : from + 0 ≡ from = omega arith in
-    record { upto = omega arith; place = sym z; long = refl; holds = sym (rw (z, append-nil (take from old)) (take-append-drop from old)) }
+    record { done = []; all = refl; place = sym z; long = refl; holds = sym (rw (z, append-nil (take from old)) (take-append-drop from old)) }
 
-module _ (ps : List (List ℕ)) (old bytes : List ℕ) (from at i : ℕ) (room : from + length (fields ps) ≤ length old) (w : Written ps old bytes from at i) where
-  module _ (s : List ℕ) (more : i < length ps) (e : s ≡ get_or ps i []) where
-    next_fields : fields (take (i + 1) ps) ≡ fields (take i ps) ++ field s
-    next_fields =
-        rw (add-one, take-suc ps i [] more, fields_append (take i ps) (get_or ps i [] ∷ []), fields_one (get_or ps i []), e)
+module _ (ps left : List (List ℕ)) (old bytes : List ℕ) (from at : ℕ) (room : from + length (fields ps) ≤ length old) (w : Written ps left old bytes from at) where
+  module _ (s : List ℕ) (others : List (List ℕ)) (e : left ≡ s ∷ others) where
+    next_fields : fields (w.done ++ (s ∷ [])) ≡ fields w.done ++ field s
+    next_fields = rw (fields_append w.done (s ∷ []), fields_one s)
 
-    next_length : length (fields (take i ps)) + length (field s) ≤ length (fields ps)
+    whole : ps ≡ (w.done ++ (s ∷ [])) ++ others
+    whole = w.all ∙ ap (λ (qs : List (List ℕ)). w.done ++ qs) e ∙ sym (append_assoc w.done (s ∷ []) others)
+
+    next_length : length (fields w.done) + length (field s) ≤ length (fields ps)
     next_length =
-        let f = fields_first (i + 1) ps in
-        let l : length (fields (take (i + 1) ps)) ≡ length (fields (take i ps)) + length (field s) = rw (next_fields, length-append) in
+        let l : length (fields ps) ≡ length (fields w.done) + length (field s) + length (fields others) = rw (whole, fields_append (w.done ++ (s ∷ [])) others, next_fields, length-append, length-append) in
         omega arith
 
     pub next_room : at + length (field s) ≤ length bytes
@@ -87,19 +83,21 @@ module _ (ps : List (List ℕ)) (old bytes : List ℕ) (from at i : ℕ) (room :
         let wl = w.long in
         omega arith
 
-    pub written_more : (next : List ℕ) (to : ℕ) → to ≡ at + length (field s) → next ≡ put bytes at (field s) → Written ps old next from to (i + 1)
+    pub written_more : (next : List ℕ) (to : ℕ) → to ≡ at + length (field s) → next ≡ put bytes at (field s) → Written ps others old next from to
     written_more next to et en =
         let f = next_length in
         let pl = w.place in
-        let l = length-append (fields (take i ps)) (field s) in
         record {
-          upto = omega arith;
-          place = rw (et, next_fields) (omega arith);
+          done = w.done ++ (s ∷ []);
+          all = whole;
+          place = rw (et, next_fields, length-append) (omega arith);
           long = rw (en, put_length bytes at (field s) next_room, w.long);
           holds =
               rw (en, w.holds, pl, next_fields)
-              (put_put old from (fields (take i ps)) (field s) (omega arith));
+              (put_put old from (fields w.done) (field s) (omega arith));
         }
 
-  pub written_all : length ps ≤ i → (at ≡ from + length (fields ps)) × (bytes ≡ put old from (fields ps))
-  written_all h = let full : take i ps ≡ ps = take_all i ps h in (rw (w.place, full), rw (w.holds, full))
+  pub written_all : left ≡ [] → (at ≡ from + length (fields ps)) × (bytes ≡ put old from (fields ps))
+  written_all h =
+      let full : w.done ≡ ps = sym (w.all ∙ ap (λ (qs : List (List ℕ)). w.done ++ qs) h ∙ append-nil w.done) in
+      (w.place ∙ ap (λ (qs : List (List ℕ)). from + length (fields qs)) full, w.holds ∙ ap (λ (qs : List (List ℕ)). put old from (fields qs)) full)

@@ -1,9 +1,9 @@
 -- The phones of a saved record, one behind the other: document 01, "Lists and the saved record" and "Restore". A phone is its
 -- id's bytes.
-use Rattle.std.specs.Prelude.{Bool, true, false, cond, List, [], ◌∷◌, ◌++◌, ℕ, zero, suc, ◌-◌, eqb, ltb, length, take, drop}
+use Rattle.std.specs.Prelude.{Bool, true, false, cond, Result, Ok, Err, List, [], ◌∷◌, ◌++◌, ℕ, zero, suc, ◌-◌, eqb, ltb, length, take, drop}
 use Rattle.phones.specs.Phones.{list_of}
-use Rattle.phone_fields.specs.declared.FieldsVerdict.{FieldsVerdict}
-use Rattle.phone_fields.specs.declared.FieldsVerdict.TheVariants.{Whole, Malformed, TooLarge}
+use Rattle.phone_fields.specs.declared.FieldsError.{FieldsError}
+use Rattle.phone_fields.specs.declared.FieldsError.TheVariants.{Malformed, TooLarge}
 use Rattle.phone_fields.specs.declared.FieldsRead.{FieldsRead}
 
 -- ---- writing
@@ -52,12 +52,7 @@ over_limits ps = cond (ltb 32 (length ps)) true (any_long ps)
 
 -- ---- what the answer holds
 
--- a verdict without a list
-unfoldable pub no_list : FieldsVerdict → ℕ → FieldsRead
-no_list verdict used = record { verdict = verdict; phones = list_of []; used = used }
-
 -- of n bytes those are used that do not remain
-unfoldable pub fields_read : ℕ → PhonesRead → FieldsRead
-fields_read n not_whole = no_list Malformed 0
-fields_read n (whole ps rest) =
-    cond (over_limits ps) (no_list TooLarge (n - length rest)) (record { verdict = Whole; phones = list_of ps; used = n - length rest })
+unfoldable pub fields_read : ℕ → PhonesRead → Result FieldsRead FieldsError
+fields_read n not_whole = Err Malformed
+fields_read n (whole ps rest) = cond (over_limits ps) (Err (TooLarge (n - length rest))) (Ok (record { phones = list_of ps; used = n - length rest }))

@@ -1,15 +1,16 @@
 -- What the private functions of the code give.
-use Rattle.std.specs.Prelude.{cond, List, [], ◌∷◌, ℕ, ◌-◌, ltb, length}
-use Rattle.phone_fields.specs.declared.FieldsVerdict.TheVariants.{Malformed, TooLarge}
-use Rattle.phone_fields.specs.declared.FieldsRead.{FieldsRead}
-use Rattle.phone_fields.specs.PhoneFields.{PhonesRead, not_whole, whole, no_list}
+use Rattle.std.specs.Prelude.{◌≡◌, ◌<◌, ◌+◌, Option, None, Some, List, ℕ, suc, ◌-◌, length}
+use denote.Ref.{Bor}
+use Rattle.phone_fields.specs.declared.FieldsError.{FieldsError}
+use Rattle.phone_fields.specs.declared.FieldsError.TheVariants.{Malformed, TooLarge}
+use Rattle.phone_fields.specs.PhoneFields.{PhonesRead, not_whole, whole, before, read_fields}
 
--- the length of the phone that what remains begins with; 0 if it is empty or not whole
-unfoldable pub first_length : List ℕ → ℕ
-first_length [] = 0
-first_length (n ∷ rest) = cond (ltb (length rest) n) 0 n
+-- what remains begins with no whole phone, or with this one, of some bytes, and these follow it
+abbrev pub ReadsFirst : List ℕ → Option (Bor (List ℕ) × Bor (List ℕ)) → Type 0
+ReadsFirst s None = (left : ℕ) → read_fields (suc left) s ≡ not_whole
+ReadsFirst s (Some p) = ((left : ℕ) → read_fields (suc left) s ≡ before p.0.now (read_fields left p.1.now)) × (length p.0.now < 256) × (length p.0.now + length p.1.now < length s)
 
 -- the answer where a limit is passed already
-abbrev pub only_checked : ℕ → PhonesRead → FieldsRead
-only_checked n not_whole = no_list Malformed 0
-only_checked n (whole ps rest) = no_list TooLarge (n - length rest)
+abbrev pub only_checked : ℕ → PhonesRead → FieldsError
+only_checked n not_whole = Malformed
+only_checked n (whole ps rest) = TooLarge (n - length rest)

@@ -3,8 +3,9 @@ use mathlib.Core.Path.{◌≡◌, refl, ap}
 use mathlib.Core.List.{List, [], ◌∷◌, ◌++◌, map, append_assoc, append-nil}
 use Prim.Native.Nat.{ℕ, zero, suc, ◌+◌, ◌-◌, ◌≤◌, ◌<◌, min}
 use native.Mathlib.Nat.{zero-min, min-zero, suc-min-suc}
+use native.Mathlib.Omega.{arith}
 use borrow.Author.Tests.{lt-ltb, le-ltb}
-use lib.ListN.{length, take, drop, replicate, length-map, length-take}
+use lib.ListN.{length, take, drop, replicate, length-append, length-map, length-take}
 use lib.Seq.{take_at, drop_at}
 use Rattle.std.proofs.lemmas.List.{drop-replicate}
 use Rattle.arrays.specs.Arrays.{padded}
@@ -39,10 +40,29 @@ take_min zero xs = rw zero-min
 take_min (suc n) [] = rw min-zero
 take_min (suc n) (x ∷ xs) = rw (suc-min-suc, take_min n xs)
 
+drop_min : {A : Type 0} (n : ℕ) (xs : List A) → drop (min n (length xs)) xs ≡ drop n xs
+drop_min zero xs = rw zero-min
+drop_min (suc n) [] = rw min-zero
+drop_min (suc n) (x ∷ xs) = rw (suc-min-suc, drop_min n xs)
+
+-- no lengths are left, and no ids
+pub no_ids : (lens bytes : List ℕ) → length lens ≡ 0 → ids_in lens bytes ≡ []
+unfolding ids_in
+no_ids [] b h = refl
+no_ids (n ∷ ns) b h = absurd (omega arith)
+
+-- the next id is cut off
+pub next_id : (lens bytes others : List ℕ) (n k : ℕ) (id rest : List ℕ) → lens ≡ n ∷ others → k ≡ min n (length bytes) → id ≡ take k bytes → rest ≡ drop k bytes → ids_in lens bytes ≡ id ∷ ids_in others rest
+unfolding ids_in
+next_id lens bytes others n k id rest e f g h = rw (e, g, h, f, take_min, drop_min)
+
 -- a length above 32 counts as 32
 pub bytes_used : (p : ShortId) (n : ℕ) → length p.bytes ≡ 32 → n ≡ min p.len 32 → take n p.bytes ≡ id_bytes p
 unfolding id_bytes
 bytes_used p n h e = rw (e, ← h, take_min p.len p.bytes)
+
+pub lens_used : (l : PhoneList) (n : ℕ) → length l.lens ≡ 32 → n ≡ min l.count 32 → take n l.lens ≡ take l.count l.lens
+lens_used l n h e = rw (e, ← h, take_min l.count l.lens)
 
 pub used_length : (p : ShortId) → length p.bytes ≡ 32 → length (id_bytes p) ≡ min p.len 32
 unfolding id_bytes
@@ -52,10 +72,6 @@ used_length p h = rw (length-take, h)
 pub over_zeros : (n : ℕ) (s : List ℕ) → s ++ drop (length s) (replicate n 0) ≡ padded n 0 s
 unfolding padded
 over_zeros n s = ap (λ (z : List ℕ). s ++ z) (drop-replicate (length s) n 0)
-
-pub id_made : (s : List ℕ) → ◌≡◌ {A = ShortId} (record { bytes = s ++ drop (length s) (replicate 32 0); len = length s }) (id_of s)
-unfolding id_of
-id_made s = rw (over_zeros 32 s)
 
 -- ---- how many, and how long together
 
@@ -72,6 +88,11 @@ pub joined_snoc : (ps : List (List ℕ)) (p : List ℕ) → joined (ps ++ (p ∷
 unfolding joined
 joined_snoc [] p = append-nil p
 joined_snoc (q ∷ ps) p = rw (joined_snoc ps p, append_assoc)
+
+pub joined_reach : (ps qs : List (List ℕ)) (p : List ℕ) → length (joined ps) + length p ≤ length (joined (ps ++ (p ∷ qs)))
+unfolding joined
+joined_reach [] qs p = rw length-append (omega arith)
+joined_reach (q ∷ ps) qs p = let h = joined_reach ps qs p in rw (length-append, length-append) (omega arith)
 
 -- ---- one id more
 

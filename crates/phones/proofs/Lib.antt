@@ -1,6 +1,7 @@
 pub mod Laws
 pub mod Made
 pub mod Walk
+pub mod Yields
 pub mod Search
 pub mod Build
 pub mod Counts

@@ -2,17 +2,16 @@
 use mathlib.Core.Path.{◌≡◌, refl, ◌∙◌}
 use mathlib.Core.Bool.{Bool, true, false, cond, true≢false}
 use mathlib.Core.List.{List, [], ◌∷◌, ◌++◌}
-use Prim.Native.Nat.compare
-use Prim.Native.Nat.{ℕ, suc, ◌+◌, ◌≤◌, ◌<◌}
+use Prim.Native.Nat.{ℕ, ◌+◌, ◌≤◌, ◌<◌}
 use native.Mathlib.Numerals.{add-one}
 use native.Mathlib.Omega.{arith}
-use borrow.Author.Tests.{lt-ltb}
-use lib.Dec.{ltb}
+use lib.Dec.{ltb, leb}
+use Rattle.std.proofs.lemmas.Grind.{common_steps}
+use Rattle.std.specs.List.{list_any, list_all}
+use mathlib.Core.Bool.{◌||◌, ◌&&◌, not}
 use lib.ListN.{length, drop, get_or, drop_of_length-le}
 use lib.Seq.{drop-cons}
-use Rattle.arrays.specs.Arrays.{same_bytes}
-use Rattle.phones.specs.Ids.{some_of, contains}
-use Rattle.phones.specs.Steps.{first_at}
+use Rattle.phones.specs.Ids.{some_of}
 
 -- ---- whether there is one
 
@@ -54,34 +53,24 @@ none_cons f x xs h = go (f x) h
     go true e = absurd (true≢false e)
     go false e = (refl, e)
 
--- ---- where the first one is
-
--- where the loop stands: the first i ids are not s
-module _ (s : List ℕ) (ps : List (List ℕ)) (i : ℕ) (inv : first_at s ps ≡ i + first_at s (drop i ps)) where
-  pub first_again : i < length ps → same_bytes (get_or ps i []) s ≡ false → first_at s ps ≡ i + 1 + first_at s (drop (i + 1) ps)
-  unfolding first_at
-  first_again h e =
-      let d : first_at s (drop i ps) ≡ suc (first_at s (drop (i + 1) ps)) = rw (add-one, drop-cons ps i [] h, e) in
-      omega arith
-
-  pub first_found : i < length ps → same_bytes (get_or ps i []) s ≡ true → i ≡ first_at s ps
-  unfolding first_at
-  first_found h e =
-      let d : first_at s (drop i ps) ≡ 0 = rw (drop-cons ps i [] h, e) in
-      omega arith
-
-  pub first_end : length ps ≤ i → i ≡ first_at s ps
-  unfolding first_at
-  first_end h =
-      let d : first_at s (drop i ps) ≡ 0 = rw (drop_of_length-le ps h) in
-      omega arith
-
--- there is one exactly if its place is below the number of ids
-pub first_contains : (s : List ℕ) (ps : List (List ℕ)) → ltb (first_at s ps) (length ps) ≡ contains s ps
-unfolding first_at contains some_of
-first_contains s [] = refl
-first_contains s (p ∷ ps) = go (same_bytes p s) (first_contains s ps)
+-- in std's words
+pub some_is : {A : Type 0} (f : A → Bool) (xs : List A) → list_any f xs ≡ some_of f xs
+unfolding some_of
+some_is f [] = refl
+some_is f (x ∷ xs) = rw (some_is f xs) (go (f x) (some_of f xs))
   where
-    go : (t : Bool) → ltb (first_at s ps) (length ps) ≡ contains s ps → ltb (cond t 0 (suc (first_at s ps))) (suc (length ps)) ≡ cond t true (contains s ps)
-    go true e = lt-ltb 0 (suc (length ps)) (omega arith)
-    go false e = rw compare.suc-suc e
+    go : (t u : Bool) → t || u ≡ cond t true u
+    go true u = refl
+    go false u = refl
+
+pub all_is : {A : Type 0} (f : A → Bool) (xs : List A) → list_all (λ (x : A). not (f x)) xs ≡ not (some_of f xs)
+unfolding some_of
+all_is f [] = refl
+all_is f (x ∷ xs) = rw (all_is f xs) (go (f x) (some_of f xs))
+  where
+    go : (t u : Bool) → not t && not u ≡ not (cond t true u)
+    go true u = refl
+    go false u = refl
+
+pub at_most_is : (n m : ℕ) → leb n m ≡ not (ltb m n)
+at_most_is n m = grind (arith, common_steps)

@@ -1,10 +1,12 @@
 -- How ids lie in memory, and nothing else knows it: `phones_of` reads a list, `list_of` is the canonical list of some ids, `laid`
 -- leaves a list as it lies or lays it anew. What stands past a count or a length is not looked at, and reading ends with the
 -- array.
-use Rattle.std.specs.Prelude.{Bool, false, cond, not, Option, None, Some, List, [], ◌∷◌, map, ℕ, ltb, length, take, drop}
+use Rattle.std.specs.Prelude.{◌≡◌, ◌<◌, Bool, false, cond, not, Option, None, Some, List, [], ◌∷◌, map, ℕ, ltb, length, take, drop}
+use denote.Ref.{Bor}
 use Rattle.arrays.specs.Arrays.{padded}
 use Rattle.phones.specs.declared.ShortId.{ShortId}
 use Rattle.phones.specs.declared.PhoneList.{PhoneList}
+use Rattle.phones.specs.declared.PackedIds.{PackedIds}
 use Rattle.phones.specs.Ids.{some_of, joined, Left, stays, becomes}
 
 -- ---- an id by itself
@@ -33,6 +35,15 @@ id_in_range p = not (too_long p)
 unfoldable pub ids_in : List ℕ → List ℕ → List (List ℕ)
 ids_in [] b = []
 ids_in (n ∷ ns) b = take n b ∷ ids_in ns (drop n b)
+
+-- those that are still to come
+abbrev pub ids_left : PackedIds → List (List ℕ)
+ids_left p = ids_in p.lens.now p.bytes.now
+
+-- the next of them is given, or none is left, now or later; its length fits a byte
+abbrev pub GivesId : PackedIds → Option (Bor (List ℕ)) → PackedIds → Type 0
+GivesId old None new = (ids_left old ≡ []) × (ids_left new ≡ [])
+GivesId old (Some id) new = (ids_left old ≡ id.now ∷ ids_left new) × (length id.now < 256)
 
 -- the ids that a list holds, in their order
 unfoldable pub phones_of : PhoneList → List (List ℕ)

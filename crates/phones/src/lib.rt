@@ -3,12 +3,11 @@
 // function makes is canonical: zeros past the last id and past the last length.
 #![tactic(auto)]
 
-ghost use Rattle.std.specs.Prelude.{◌≡◌, [], min, ◌<◌, length, take};
-ghost use Rattle.arrays.specs.Arrays.{same_bytes};
-ghost use Rattle.phones.specs.Ids.{any_in, pushed};
+ghost use Rattle.std.specs.Prelude.{◌≡◌, [], ◌∷◌, ◌++◌, min, ◌<◌, ◌≤◌, length, map, IsTrue, position};
+ghost use Rattle.arrays.specs.Arrays.{padded, same_bytes};
+ghost use Rattle.phones.specs.Ids.{any_in, joined, pushed, room_for};
 ghost use Rattle.phones.specs.Ids as Ids;
-ghost use Rattle.phones.specs.Phones.{id_bytes, id_of, made_id, id_in_range, ids_in, phones_of, list_of, list_in_range, laid};
-ghost use Rattle.phones.specs.Steps.{first_at, measured_of};
+ghost use Rattle.phones.specs.Phones.{id_bytes, id_of, made_id, id_in_range, ids_left, phones_of, list_of, list_in_range, laid};
 
 // An id of at most 32 bytes: a phone's, or a method's.
 #[derive(Clone, Copy)]
@@ -34,11 +33,98 @@ pub struct PhoneList {
     pub count: usize,
 }
 
-// The lengths of some ids, and where they end.
+impl PhoneList {
+    // The ids, in their order.
+    pub fn ids(&self) -> PackedIds<'_>
+        ensures value { ids_left result ≡ phones_of self.now }
+        ensures few { length (phones_of self.now) < 33 }
+        ensures within { length (joined (phones_of self.now)) < 1025 }
+    {
+        PackedIds {
+            lens: &self.lens[..self.count.min(32)],
+            bytes: &self.bytes,
+        }
+    }
+}
+
+// Ids that lie end to end, the next one first: as long as their lengths say, and cut at the end of the bytes.
 #[derive(Clone, Copy)]
-struct Measured {
-    lens: [u8; 32],
+pub struct PackedIds<'a> {
+    pub lens: &'a [u8],
+    pub bytes: &'a [u8],
+}
+
+impl<'a> Iterator for PackedIds<'a> {
+    ghost use Rattle.std.specs.Iterator.{item_count};
+    ghost use Rattle.phones.specs.Phones.{ids_left, GivesId};
+
+    type Item = &'a [u8];
+
+    ghost next_gives = { GivesId };
+
+    ghost remaining = { item_count ids_left };
+
+    fn next(&mut self) -> Option<&'a [u8]> {
+        let (len, lens) = self.lens.split_first()?;
+        let (id, bytes) = self.bytes.split_at(part(*len, self.bytes.len()));
+        self.lens = lens;
+        self.bytes = bytes;
+        Some(id)
+    }
+}
+
+// A canonical list that ids are put into, and where its ids end.
+#[derive(Clone, Copy)]
+pub struct Packing {
+    pub list: PhoneList,
     end: usize,
+    ghost canonical: { list ≡ list_of (phones_of list) },
+    ghost ends: { end ≡ length (joined (phones_of list)) },
+    ghost within: { end < 1025 },
+    ghost few: { list.count < 33 },
+}
+
+impl Packing {
+    pub fn new() -> Packing
+        ensures { phones_of result.list ≡ [] }
+    {
+        Packing {
+            list: empty_list(),
+            end: 0,
+        }
+    }
+
+    // The ids of a list, their bytes at once.
+    fn of(l: &PhoneList) -> Packing
+        ensures { phones_of result.list ≡ phones_of l.now }
+    {
+        let (lens, end) = measured(l.ids());
+        let list = PhoneList {
+            bytes: over_zeros(&l.bytes[..end]),
+            lens,
+            count: l.count.min(32),
+        };
+        Packing { list, end }
+    }
+
+    // Whether there is a place and the bytes for an id.
+    fn has_room(&self, id: &[u8]) -> bool
+        ensures { result ≡ room_for id.now (phones_of self.now.list) }
+    {
+        self.list.count < 32 && self.end + id.len() <= 1024
+    }
+
+    // One id more.
+    pub fn push(&mut self, id: &[u8])
+        requires byte { length id.now < 256 }
+        requires room { IsTrue (room_for id.now (phones_of self.old.list)) }
+        ensures { phones_of self.new.list ≡ phones_of self.old.list ++ (id.now ∷ []) }
+    {
+        arrays::put(&mut self.list.bytes, self.end, id);
+        self.list.lens[self.list.count] = id.len() as u8;
+        self.list.count += 1;
+        self.end += id.len();
+    }
 }
 
 // A length or a count, at most 32.
@@ -55,14 +141,22 @@ pub fn id_is(p: ShortId, s: &[u8]) -> bool
     arrays::same_bytes(p.used(), s)
 }
 
+// A string with zeros past it.
+fn over_zeros<const N: usize>(s: &[u8]) -> [u8; N]
+    requires { length s.now ≤ N }
+    ensures { result ≡ padded N 0 s.now }
+{
+    let mut bytes = [0u8; N];
+    bytes[..s.len()].copy_from_slice(s);
+    bytes
+}
+
 fn id_of(s: &[u8]) -> ShortId
     requires { length s.now < 33 }
     ensures { result ≡ id_of s.now }
 {
-    let mut bytes = [0u8; 32];
-    bytes[..s.len()].copy_from_slice(s);
     ShortId {
-        bytes,
+        bytes: over_zeros(s),
         len: s.len(),
     }
 }
@@ -111,151 +205,80 @@ pub fn count(l: PhoneList) -> usize
     clamp(l.count)
 }
 
-// The place of the first id that is `s`; the number of ids if there is none.
-pub fn first_at(bytes: &[u8], lens: [u8; 32], count: usize, s: &[u8]) -> usize
-    ensures { result ≡ first_at s.now (ids_in (take count lens) bytes.now) }
+// The lengths as they were cut, zeros past them, and where the ids end.
+fn measured(ids: PackedIds<'_>) -> ([u8; 32], usize)
+    requires { length (ids_left ids) < 33 }
+    ensures lens { result.0 ≡ padded 32 0 (map length (ids_left ids.entry)) }
+    ensures end { result.1 ≡ length (joined (ids_left ids.entry)) }
 {
-    let n = clamp(count);
-    let mut at = 0;
-    let mut i = 0;
-    while i < n {
-        let end = at + part(lens[i], bytes.len() - at);
-        if arrays::same_bytes(&bytes[at..end], s) {
-            return i;
-        }
-        at = end;
-        i += 1;
+    let mut lens = [0u8; 32];
+    let mut end = 0;
+    for (i, id) in ids.enumerate() {
+        lens[i] = id.len() as u8;
+        end += id.len();
     }
-    i
+    (lens, end)
+}
+
+// The place of the first id that is `s`.
+pub fn first_at(mut ids: PackedIds<'_>, s: &[u8]) -> Option<usize>
+    ensures { result ≡ position (λ p. same_bytes p s.now) (ids_left ids.entry) }
+{
+    ids.position(|id| arrays::same_bytes(id, s))
 }
 
 // Whether the byte string `s` is one of the ids.
-pub fn found(bytes: &[u8], lens: [u8; 32], count: usize, s: &[u8]) -> bool
-    ensures { result ≡ Ids.contains s.now (ids_in (take count lens) bytes.now) }
+pub fn found(mut ids: PackedIds<'_>, s: &[u8]) -> bool
+    ensures { result ≡ Ids.contains s.now (ids_left ids.entry) }
 {
-    first_at(bytes, lens, count, s) < clamp(count)
+    ids.any(|id| arrays::same_bytes(id, s))
 }
 
 // Whether the byte string `s` is in the list.
 pub fn contains(l: PhoneList, s: &[u8]) -> bool
     ensures { result ≡ Ids.contains s.now (phones_of l) }
 {
-    let lens = l.lens;
-    found(&l.bytes, lens, l.count, s)
+    found(l.ids(), s)
 }
 
 // Whether an id is in the list.
 pub fn contains_id(l: PhoneList, p: ShortId) -> bool
     ensures { result ≡ Ids.contains (id_bytes p) (phones_of l) }
 {
-    contains(l, p.used())
+    found(l.ids(), p.used())
 }
 
 // Whether some id of the list is in the other one.
 pub fn any_in(l: PhoneList, other: PhoneList) -> bool
     ensures { result ≡ any_in (phones_of other) (phones_of l) }
 {
-    let lens = l.lens;
-    let count = l.count;
-    let bytes: &[u8] = &l.bytes;
-    let their_lens = other.lens;
-    let their_count = other.count;
-    let theirs: &[u8] = &other.bytes;
-    let n = clamp(count);
-    let mut at = 0;
-    let mut i = 0;
-    while i < n {
-        let end = at + part(lens[i], bytes.len() - at);
-        if found(theirs, their_lens, their_count, &bytes[at..end]) {
-            return true;
-        }
-        at = end;
-        i += 1;
-    }
-    false
-}
-
-// The lengths as they were cut, zeros past them, and where the ids end.
-fn measure(bytes: &[u8], lens: [u8; 32], count: usize) -> Measured
-    ensures { result ≡ measured_of (ids_in (take count lens) bytes.now) }
-{
-    let n = clamp(count);
-    let mut cut = [0u8; 32];
-    let mut at = 0;
-    let mut i = 0;
-    while i < n {
-        let len = part(lens[i], bytes.len() - at);
-        cut[i] = len as u8;
-        at += len;
-        i += 1;
-    }
-    Measured { lens: cut, end: at }
+    l.ids().any(|id| found(other.ids(), id))
 }
 
 // The same ids in canonical form.
 pub fn canonical(l: PhoneList) -> PhoneList
     ensures { result ≡ list_of (phones_of l) }
 {
-    let old_lens = l.lens;
-    let old_count = l.count;
-    let old: &[u8] = &l.bytes;
-    let m = measure(old, old_lens, old_count);
-    let end = m.end;
-    let lens = m.lens;
-    let mut bytes = [0u8; 1024];
-    arrays::put(&mut bytes, 0, &old[..end]);
-    PhoneList {
-        bytes,
-        lens,
-        count: clamp(old_count),
-    }
+    Packing::of(&l).list
 }
 
 // The list with one id more, if there is room.
 pub fn append(l: PhoneList, p: ShortId) -> PhoneList
     ensures { result ≡ laid l (pushed (id_bytes p) (phones_of l)) }
 {
-    let old_lens = l.lens;
-    let old_count = l.count;
-    let k = clamp(old_count);
-    if k < 32 {
-        let m = measure(&l.bytes, old_lens, old_count);
-        let end = m.end;
-        let n = clamp(p.len);
-        if 1024 < end + n {
-            return l;
-        }
-        let old: &[u8] = &l.bytes;
-        let added = p.bytes;
-        let mut bytes = [0u8; 1024];
-        arrays::put(&mut bytes, 0, &old[..end]);
-        arrays::put(&mut bytes, end, &added[..n]);
-        let mut lens = m.lens;
-        lens[k] = n as u8;
-        return PhoneList {
-            bytes,
-            lens,
-            count: k + 1,
-        };
+    let id = p.used();
+    let mut packing = Packing::of(&l);
+    if packing.has_room(id) {
+        packing.push(id);
+        packing.list
+    } else {
+        l
     }
-    l
 }
 
 // Whether the count, and each length in use, are at most 32.
 pub fn list_in_range(l: PhoneList) -> bool
     ensures { result ≡ list_in_range l }
 {
-    let count = l.count;
-    if 32 < count {
-        return false;
-    }
-    let lens = l.lens;
-    let mut i = 0;
-    while i < count {
-        if 32 < lens[i] {
-            return false;
-        }
-        i += 1;
-    }
-    true
+    l.count <= 32 && l.lens[..l.count].iter().all(|n| *n <= 32)
 }

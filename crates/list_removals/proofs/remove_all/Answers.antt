@@ -1,15 +1,14 @@
--- The ids that are not the string are marked.
-use mathlib.Core.Path.{◌≡◌}
-use borrow.Author.Rules.{rules}
-use lib.ListN.{length}
+use Rattle.std.proofs.Common.{◌≡◌, ap, ◌∙◌, Bool, not, map, rules, List, ℕ}
+use borrow.Author.Tests.{tests}
+use Rattle.arrays.specs.Arrays.{same_bytes}
+use Rattle.phones.specs.Ids.{remove_all}
 use Rattle.phones.specs.Phones.{phones_of}
-use Rattle.list_removals.proofs.Moving.{whole}
-use Rattle.list_removals.proofs.Marks.{all_marks}
+use Rattle.list_removals.proofs.Marks.{keep_marked, marked_at}
 use Rattle.list_removals.proofs.remove_all.Goals as goal
 
 pub returns : goal.returns
-unfolding phones_of
+unfolding remove_all
 returns c =
-    let a = c.args in
-    let far : length a.l.bytes ≡ 1024 = search rules in
-    rw (all_marks a.s.now (phones_of a.l), ← c.others-keep.ensures) (rw (whole a.l far) at c.compacted.ensures)
+    let f : List ℕ → Bool = λ p. not (same_bytes p c.args.s.now) in
+    let ps = phones_of c.args.l in
+    rw (← keep_marked f ps) (c.keeping.ensures (map f ps) (λ i id b h e k. let says : b ≡ f id.now = search (rules, tests) in says ∙ ap f e ∙ marked_at f ps i h))

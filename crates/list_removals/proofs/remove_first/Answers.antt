@@ -1,19 +1,19 @@
--- All are marked but the first id that is the string.
-use mathlib.Core.Path.{◌≡◌}
-use native.Mathlib.Omega.{arith}
-use borrow.Author.Rules.{rules}
-use lib.ListN.{length}
+use Rattle.std.proofs.Common.{◌≡◌, ◌∙◌, not, eqb, arith, rules}
+use borrow.Author.Tests.{tests}
 use Rattle.phones.specs.Phones.{phones_of}
-use Rattle.phones.proofs.Laws.{phones_length}
-use Rattle.list_removals.proofs.Moving.{whole}
-use Rattle.list_removals.proofs.Marks.{first_marks}
+use Rattle.list_removals.proofs.Marks.{first_marks, all_but, all_but_at, none_removed}
 use Rattle.list_removals.proofs.remove_first.Goals as goal
 
-pub returns : goal.returns
-unfolding phones_of
-returns c =
-    let a = c.args in
-    let many : length a.l.lens ≡ 32 = search rules in
-    let few = phones_length a.l many in
-    let far : length a.l.bytes ≡ 1024 = search rules in
-    rw (first_marks a.s.now (phones_of a.l) (omega arith), ← c.first_at-i.ensures, ← c.all_but-keep.ensures) (rw (whole a.l far) at c.compacted.ensures)
+pub returns-in-Some : goal.returns-in-Some
+returns-in-Some c =
+    let ps = phones_of c.args.l in
+    let s = c.args.s.now in
+    let at = rw c.ids.ensures.value at c.in-Some.ensures in
+    rw (first_marks s ps _ at (omega (arith, c.ids.ensures.few)))
+    (c.keeping.ensures (all_but c.in-Some.first) (λ i id b h e k. let says : b ≡ not (eqb i c.in-Some.first) = search (rules, tests) in says ∙ all_but_at s ps i _ at (omega (arith, c.ids.ensures.few))))
+
+pub returns-in-None : goal.returns-in-None
+returns-in-None c =
+    let ps = phones_of c.args.l in
+    let at = rw c.ids.ensures.value at c.in-None.ensures in
+    rw (none_removed c.args.s.now ps at) c.canonical.ensures

@@ -1,15 +1,13 @@
--- The ids that are in the other list are marked.
-use mathlib.Core.Path.{◌≡◌}
-use borrow.Author.Rules.{rules}
-use lib.ListN.{length}
+use Rattle.std.proofs.Common.{◌≡◌, ap, ◌∙◌, Bool, map, rules, List, ℕ}
+use borrow.Author.Tests.{tests}
+use Rattle.phones.specs.Ids.{contains, retain_in}
 use Rattle.phones.specs.Phones.{phones_of}
-use Rattle.list_removals.proofs.Moving.{whole}
-use Rattle.list_removals.proofs.Marks.{retain_marks}
+use Rattle.list_removals.proofs.Marks.{keep_marked, marked_at}
 use Rattle.list_removals.proofs.retain_in.Goals as goal
 
 pub returns : goal.returns
-unfolding phones_of
+unfolding retain_in
 returns c =
-    let a = c.args in
-    let far : length a.l.bytes ≡ 1024 = search rules in
-    rw (retain_marks (phones_of a.other) (phones_of a.l), ← c.shared-keep.ensures) (rw (whole a.l far) at c.compacted.ensures)
+    let f : List ℕ → Bool = λ p. contains p (phones_of c.args.other) in
+    let ps = phones_of c.args.l in
+    rw (← keep_marked f ps) (c.keeping.ensures (map f ps) (λ i id b h e k. let says : b ≡ f id.now = search (rules, tests) in says ∙ ap f e ∙ marked_at f ps i h))

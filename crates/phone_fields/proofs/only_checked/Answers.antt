@@ -1,35 +1,26 @@
-use mathlib.Core.Path.{refl, sym, ◌∙◌}
-use native.Mathlib.Omega.{arith}
-use Rattle.phone_fields.proofs.Reading.{first_fits, read_all, read_none, checked_step, tail_length}
-use Prim.Native.Nat.{◌+◌}
+use Rattle.std.proofs.Common.{◌≡◌, ◌-◌, ◌+◌, ◌∙◌, suc, arith, refl}
+use native.Mathlib.Nat.{sub-zero}
+use Rattle.phone_fields.proofs.Reading.{read_all, checked_step}
 use Rattle.phone_fields.proofs.only_checked.Goals as goal
 
-pub loop-left-init : goal.loop-left-init
-loop-left-init c = (omega arith, refl)
+pub loop-init : goal.loop-init
+loop-init c = (omega arith, rw sub-zero refl)
 
-pub returns-then-n-eq0 : goal.returns-then-n-eq0
-returns-then-n-eq0 c = rw (c.refused.ensures, c.loop-left.invariant.1, read_none c.loop-left.left c.loop-left.rest.now c.loop-left-test.true (sym c.if-n-eq0.true ∙ c.first_length-n.ensures))
+pub returns-in-None : goal.returns-in-None
+returns-in-None c =
+    let loop = c.loop in
+    let next : c.args.count - loop.counter ≡ suc (c.args.count - (loop.counter + 1)) = omega arith in
+    rw (loop.invariant.1, next, c.in-None.ensures (c.args.count - (loop.counter + 1))) refl
 
-pub overflow_add-rest : goal.overflow_add-rest
-overflow_add-rest c =
-    let fit = first_fits c.loop-left.rest.now c.first_length-n.result c.first_length-n.ensures c.if-n-eq0.false in
-    omega arith
+pub loop-preserved : goal.loop-preserved
+loop-preserved c =
+    let loop = c.loop in
+    let next : c.args.count - loop.counter ≡ suc (c.args.count - (loop.counter + 1)) = omega arith in
+    let h = c.in-Some.ensures in
+    (omega (arith, h.2), loop.invariant.1 ∙ rw next (checked_step c.args.total _ loop.rest.now _ _ (h.0 _)))
 
-pub slice_bounds-rest-count : goal.slice_bounds-rest-count
-slice_bounds-rest-count c = first_fits c.loop-left.rest.now c.first_length-n.result c.first_length-n.ensures c.if-n-eq0.false
-
-pub slice_bounds-rest-start : goal.slice_bounds-rest-start
-slice_bounds-rest-start c = first_fits c.loop-left.rest.now c.first_length-n.result c.first_length-n.ensures c.if-n-eq0.false
-
-pub loop-left-preserved : goal.loop-left-preserved
-loop-left-preserved c =
-    let first = c.first_length-n in
-    (tail_length c.loop-left.rest.now (1 + first.result) c.loop-left.invariant.0, c.loop-left.invariant.1 ∙ checked_step _ c.loop-left.left c.loop-left.rest.now first.result c.loop-left-test.true first.ensures c.if-n-eq0.false)
-
-pub overflow_sub-total : goal.overflow_sub-total
-overflow_sub-total c =
-    let h = c.requires in
-    omega (arith, h)
+pub overflow_sub-result : goal.overflow_sub-result
+overflow_sub-result c = omega (arith, c.requires)
 
 pub returns : goal.returns
-returns c = rw (c.refused-2.ensures, c.loop-left.invariant.1, read_all c.loop-left.left c.loop-left.rest.now (omega arith))
+returns c = rw (c.loop.invariant.1, read_all (c.args.count - c.loop.counter) c.loop.rest.now (omega arith))

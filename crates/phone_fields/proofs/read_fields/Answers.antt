@@ -1,78 +1,42 @@
-use mathlib.Core.Path.{sym, ◌∙◌}
-use mathlib.Core.List.{[], ◌∷◌, ◌++◌}
-use native.Mathlib.Omega.{arith}
-use lib.ListN.{take, drop, length-take, length-drop}
-use Rattle.phone_fields.proofs.Reading.{first_fits, read_none, too_many, kept_start, kept_none, kept_all, kept_long, kept_step}
+use Rattle.std.proofs.Common.{◌≡◌, ◌∙◌, ap, arith, Result, Ok, Err}
+use Rattle.std.specs.Result.{IsErrAnd}
+use Rattle.phone_fields.specs.declared.FieldsError.{FieldsError}
+use Rattle.phone_fields.specs.declared.FieldsError.TheVariants.{Malformed}
+use Rattle.phone_fields.proofs.Reading.{too_many, kept_start, kept_none, kept_all, kept_long, kept_step, kept_room}
 use Rattle.phone_fields.proofs.read_fields.Goals as goal
 
 pub returns-then-count-gt32 : goal.returns-then-count-gt32
-returns-then-count-gt32 c = c.only_checked.ensures ∙ too_many _ c.args.count c.args.bytes.now c.if-count-gt32.true
+returns-then-count-gt32 c = rw c.only_checked.ensures (too_many _ _ _ c.if-count-gt32.true)
 
-pub loop-left-init : goal.loop-left-init
-loop-left-init c = ([], kept_start _ _)
+pub loop-k-init : goal.loop-k-init
+loop-k-init c = rw c.new-packing.ensures (kept_start _ _)
 
-pub returns-then-len-eq0 : goal.returns-then-len-eq0
-returns-then-len-eq0 c =
-    let at = c.loop-left in
-    rw c.refused.ensures
-    (kept_none _ _ _ _ _ _ _ _ c.if-count-gt32.false at.invariant.1
-    (read_none at.left at.rest.now c.loop-left-test.true (sym c.if-len-eq0.true ∙ c.first_length-len.ensures)))
+-- `?` hands the error on as it is
+handed : {A : Type 0} (r : Result A FieldsError) (e f : FieldsError) → IsErrAnd r (λ x. x ≡ e) → e ≡ f → r ≡ Err f
+handed (Ok x) e f h k = absurd h
+handed (Err x) e f h k = ap Err (h ∙ k)
 
-pub only_checked-requires-then-len-gt32 : goal.only_checked-requires-then-len-gt32
-only_checked-requires-then-len-gt32 c = let k = c.loop-left.invariant.1.within in omega arith
+pub returns-in_err-id : goal.returns-in_err-id
+returns-in_err-id c =
+    let none = rw c.in_err-id.ensures.ok_part at c.first_field.ensures in
+    let is = rw c.in_err-id.ensures.ok_part at c.in_err-id.ensures.value in
+    handed _ _ Malformed c.from_residual.ensures.1 (cc) ∙ kept_none _ _ _ _ _ c.loop-k.invariant (omega arith) none
 
-pub returns-then-len-gt32 : goal.returns-then-len-gt32
-returns-then-len-gt32 c =
-    let at = c.loop-left in
-    let first = c.first_length-len in
-    c.only_checked-then-len-gt32.ensures
-    ∙ kept_long _ _ _ _ _ _ _ _ c.if-count-gt32.false at.invariant.1 first.result c.loop-left-test.true first.ensures c.if-len-eq0.false c.if-len-gt32.true
+pub returns-then-id-gt32 : goal.returns-then-id-gt32
+returns-then-id-gt32 c =
+    let first = rw c.in_ok-id.ensures.ok_part at c.first_field.ensures in
+    rw c.only_checked-then-id-gt32.ensures (kept_long _ _ _ _ _ c.loop-k.invariant (omega arith) _ _ first.0 c.if-id-gt32.true)
 
-pub overflow_add-end : goal.overflow_add-end
-overflow_add-end c = let fit = first_fits _ _ c.first_length-len.ensures c.if-len-eq0.false in omega arith
+pub push-requires-clause-room : goal.push-requires-clause-room
+push-requires-clause-room c =
+    kept_room _ _ _ _ _ c.loop-k.invariant _ (omega arith) c.if-id-gt32.false
 
-pub slice_bounds-put-end : goal.slice_bounds-put-end
-slice_bounds-put-end c = sym c.loop-left.invariant.1.built.long
-
-pub slice_bounds-put-end-in-loop-left : goal.slice_bounds-put-end-in-loop-left
-slice_bounds-put-end-in-loop-left c = first_fits _ _ c.first_length-len.ensures c.if-len-eq0.false
-
-pub put-requires : goal.put-requires
-put-requires c =
-    let kept = c.loop-left.invariant.1 in
-    let b = kept.built.long in
-    let r = kept.room in
-    let m = kept.many in
-    rw (length-take, length-drop) (omega arith)
-
-pub overflow_sub-k : goal.overflow_sub-k
-overflow_sub-k c = let m = c.loop-left.invariant.1.many in omega arith
-
-pub bounds-lens-k : goal.bounds-lens-k
-bounds-lens-k c = let m = c.loop-left.invariant.1.many in omega arith
-
-pub overflow_add-to : goal.overflow_add-to
-overflow_add-to c = let r = c.loop-left.invariant.1.room in omega arith
-
-pub slice_bounds-rest-count : goal.slice_bounds-rest-count
-slice_bounds-rest-count c = first_fits _ _ c.first_length-len.ensures c.if-len-eq0.false
-
-pub slice_bounds-rest-start : goal.slice_bounds-rest-start
-slice_bounds-rest-start c = first_fits _ _ c.first_length-len.ensures c.if-len-eq0.false
-
-pub loop-left-preserved : goal.loop-left-preserved
-loop-left-preserved c =
-    let at = c.loop-left in
-    let first = c.first_length-len in (
-      at.invariant.0 ++ (take first.result (drop 1 at.rest.now) ∷ []),
-      rw c.put.ensures
-          (kept_step _ _ _ _ _ _ _ _ c.if-count-gt32.false at.invariant.1 first.result c.loop-left-test.true first.ensures c.if-len-eq0.false c.if-len-gt32.false),
-    )
-
-pub overflow_sub-result : goal.overflow_sub-result
-overflow_sub-result c = let k = c.loop-left.invariant.1.within in omega arith
+pub loop-k-preserved : goal.loop-k-preserved
+loop-k-preserved c =
+    let first = rw c.in_ok-id.ensures.ok_part at c.first_field.ensures in
+    rw c.push.ensures (kept_step _ _ _ _ _ c.loop-k.invariant (omega arith) _ _ first.0 c.if-id-gt32.false (omega (arith, first.2)))
 
 pub returns : goal.returns
 returns c =
-    let at = c.loop-left in
-    kept_all _ _ _ _ _ _ _ _ c.if-count-gt32.false at.invariant.1 (omega arith)
+    let p = c.loop-k.packing in
+    rw p.canonical (kept_all _ _ _ _ _ c.loop-k.invariant c.if-count-gt32.false (omega arith))

@@ -1,6 +1,6 @@
--- The string is copied over zeros.
-use Rattle.phones.proofs.Laws.{id_made}
+use Rattle.phones.specs.Phones.{id_of}
 use Rattle.phones.proofs.id_of.Goals as goal
 
 pub returns : goal.returns
-returns c = rw c.copy_from_slice.ensures.after (id_made c.args.s.now)
+unfolding id_of
+returns c = rw c.over_zeros.ensures
