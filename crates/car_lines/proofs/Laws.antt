@@ -1,10 +1,5 @@
 -- Laws of what is written one after the other.
-use mathlib.Core.Path.{◌≡◌, ap, ◌∙◌}
-use mathlib.Core.List.{List, [], ◌∷◌, ◌++◌, append-nil}
-use Prim.Native.Nat.{ℕ, ◌+◌, ◌≤◌}
-use native.Mathlib.Nat.{add-zero}
-use native.Mathlib.Omega.{arith}
-use lib.ListN.{length, take, length-append, take-append-drop}
+use Rattle.std.proofs.Common.{◌≡◌, ap, ◌∙◌, List, [], ◌∷◌, ◌++◌, append-nil, ℕ, ◌+◌, ◌≤◌, add-zero, arith, length, take, length-append, take-append-drop}
 use Rattle.arrays.specs.Arrays.{put}
 use Rattle.phone_fields.proofs.Writing.{put_put}
 use Rattle.car_lines.specs.Lines.{line}

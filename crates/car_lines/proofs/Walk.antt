@@ -1,15 +1,9 @@
 -- The reader's way over a record, what stands where in it, and the lines written on the way.
-use mathlib.Core.Path.{◌≡◌, refl, ap, sym, ◌∙◌}
-use mathlib.Core.List.{List, [], ◌∷◌, ◌++◌, append_assoc, append-nil}
-use Prim.Native.Nat.{ℕ, zero, suc, ◌+◌, ◌-◌, ◌≤◌, ◌<◌}
-use native.Mathlib.Numerals.{sub-one}
-use native.Mathlib.Omega.{arith}
-use lib.ListN.{length, take, drop, drop_of_length-le, length-append, length-drop}
-use lib.Seq.{drop-append_seam, drop-drop, take-append_seam}
+use Rattle.std.proofs.Common.{◌≡◌, refl, ap, sym, ◌∙◌, List, [], ◌∷◌, ◌++◌, append_assoc, append-nil, ℕ, zero, suc, ◌+◌, ◌-◌, ◌≤◌, ◌<◌, sub-one, arith, length, take, drop, drop_of_length-le, length-append, length-drop, drop-drop, Ok, Err}
+use Rattle.std.proofs.Math.Seq.{drop-append_seam, take-append_seam}
 use Rattle.ascii.specs.Ascii.{ascii}
 use Rattle.arrays.specs.Arrays.{put}
 use Rattle.hexadecimal.specs.Hex.{hex_of}
-use Rattle.std.specs.Prelude.{Ok, Err}
 use Rattle.reader.specs.declared.Field.{Field}
 use Rattle.reader.specs.declared.FieldError.{FieldError}
 use Rattle.reader.specs.Reader.{field_at}

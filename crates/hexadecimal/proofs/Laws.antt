@@ -1,15 +1,6 @@
 -- Laws of the definitions of specs/.
-use mathlib.Core.Path.{◌≡◌, refl}
-use mathlib.Core.Bool.{Bool, true, false, cond}
-use mathlib.Core.List.{List, [], ◌∷◌}
-use Prim.Native.Nat.{ℕ, zero, suc, ◌+◌, ◌*◌, ◌-◌, ◌/◌, ◌%◌, ◌≤◌, ◌<◌}
-use native.Mathlib.Nat.{mod-eq_of_lt}
-use native.Mathlib.Omega.{arith}
-use borrow.Author.Tests.{lt-ltb, le-ltb, ltb-true, ltb-false}
-use lib.Dec.{ltb}
-use lib.ListN.{length, get_or, set}
-use lib.Seq.{paste, paste-suc}
-use Rattle.std.specs.Prelude.{Some}
+use Rattle.std.proofs.Common.{◌≡◌, refl, Bool, true, false, cond, List, [], ◌∷◌, ℕ, zero, suc, ◌+◌, ◌*◌, ◌-◌, ◌/◌, ◌%◌, ◌≤◌, ◌<◌, mod-eq_of_lt, arith, lt-ltb, le-ltb, ltb-true, ltb-false, ltb, length, get_or, set, Some}
+use Rattle.std.proofs.Math.Seq.{paste, paste-suc}
 use Rattle.hexadecimal.specs.Hex.{digit, hex_of, value_of}
 
 pub hex_length : (s : List ℕ) → length (hex_of s) ≡ 2 * length s

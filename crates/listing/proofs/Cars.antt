@@ -1,12 +1,6 @@
 -- The lines of all cars, one after the other.
-use mathlib.Core.Path.{◌≡◌, refl, ◌∙◌}
-use mathlib.Core.List.{List, [], ◌++◌}
-use Prim.Native.Nat.{ℕ, ◌+◌, ◌≤◌, ◌<◌}
-use native.Mathlib.Nat.{zero-add}
-use native.Mathlib.Numerals.{add-one}
-use native.Mathlib.Omega.{arith}
-use lib.ListN.{length, drop, get_or, replicate, drop_of_length-le, length-replicate}
-use lib.Seq.{drop-cons}
+use Rattle.std.proofs.Common.{◌≡◌, refl, ◌∙◌, List, [], ◌++◌, ℕ, ◌+◌, ◌≤◌, ◌<◌, zero-add, add-one, arith, length, drop, get_or, replicate, drop_of_length-le, drop-cons}
+use Rattle.std.proofs.Math.ListN.{length-replicate}
 use Rattle.arrays.specs.Arrays.{padded}
 use Rattle.arrays.proofs.Laws.{put_padded}
 use Rattle.ascii.specs.Ascii.{ascii}

@@ -1,7 +1,5 @@
 -- P12 and P13 of document 01 as the listing program prints them.
-use mathlib.Core.Path.{◌≡◌}
-use mathlib.Core.List.{[], ◌∷◌, ◌++◌}
-use Prim.Native.Nat.{ℕ}
+use Rattle.std.proofs.Common.{◌≡◌, [], ◌∷◌, ◌++◌, ℕ}
 use Rattle.ascii.specs.Ascii.{ascii}
 use Rattle.decimal.specs.Decimal.{digits_up_to, decimal_of}
 use Rattle.hexadecimal.specs.Hex.{digit, hex_of}

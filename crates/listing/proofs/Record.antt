@@ -1,13 +1,5 @@
 -- A record that restore accepts: its cars stand where they are looked for, and their lines fit.
-use mathlib.Core.Path.{◌≡◌, refl, ap, sym}
-use mathlib.Core.Bool.{Bool, true, false, cond, true≢false}
-use mathlib.Core.List.{List, [], ◌∷◌, ◌++◌}
-use Prim.Native.Nat.{ℕ, ◌*◌, ◌≤◌}
-use native.Mathlib.Omega.{arith}
-use borrow.Author.Tests.{ltb-false}
-use lib.Dec.{ltb}
-use lib.ListN.{length, take, length-append}
-use lib.Seq.{length-take-le}
+use Rattle.std.proofs.Common.{◌≡◌, refl, ap, sym, Bool, true, false, cond, true≢false, List, [], ◌∷◌, ◌++◌, ℕ, ◌*◌, ◌≤◌, arith, ltb-false, ltb, length, take, length-append, length-take-le, Ok, Err}
 use Rattle.ascii.specs.Ascii.{ascii}
 use Rattle.arrays.proofs.Laws.{padded_length}
 use Rattle.decimal.specs.Decimal.{decimal_of}
@@ -16,7 +8,6 @@ use Rattle.hexadecimal.specs.Hex.{hex_of}
 use Rattle.hexadecimal.proofs.Laws.{hex_length}
 use Rattle.phones.proofs.Search.{none_cons}
 use Rattle.phone_fields.specs.PhoneFields.{any_long, over_limits}
-use Rattle.std.specs.Prelude.{Ok, Err}
 use Rattle.saved_record.specs.declared.RecordError.{RecordError}
 use Rattle.saved_record.specs.declared.Store.{Store}
 use Rattle.saved_record.specs.SavedRecord.{CarIds, car_parts, over, Reading, malformed, car_twice, too_large, ok, decoded}

@@ -1,7 +1,5 @@
 -- A field by what remains of the record at its place.
-use Rattle.std.proofs.Common.{◌≡◌, ℕ, ◌+◌, ◌-◌, ◌≤◌, Bool, true, false, cond, List, ◌∷◌, ltb, length, get_or, drop, suc, refl, ap, sym, ◌∙◌, arith, length-drop, add-zero}
-use Rattle.std.specs.Prelude.{Ok, Err}
-use borrow.Author.Tests.{lt-ltb, le-ltb, ltb-true, ltb-false}
+use Rattle.std.proofs.Common.{◌≡◌, ℕ, ◌+◌, ◌-◌, ◌≤◌, Bool, true, false, cond, List, ◌∷◌, ltb, length, get_or, drop, suc, refl, ap, sym, ◌∙◌, arith, length-drop, add-zero, Ok, Err, lt-ltb, le-ltb, ltb-true, ltb-false}
 use Rattle.std.proofs.Math.Seq.{get_or-drop}
 use Rattle.reader.specs.declared.Field.{Field}
 use Rattle.reader.specs.declared.FieldError.TheVariants.{Short, End}

@@ -1,6 +1,5 @@
 -- What is text, by RFC 3629's encoding.
-use Rattle.std.proofs.Common.{◌≡◌, ℕ, true, List, refl}
-use Rattle.std.specs.Prelude.{Option, Some, None, is_some}
+use Rattle.std.proofs.Common.{◌≡◌, ℕ, true, List, refl, Option, Some, None, is_some}
 use Rattle.utf8.specs.Utf8.{scalars, encode_all, decode}
 use Rattle.text.specs.Text.{trim, is_text, trimmed}
 use Rattle.utf8.proofs.Utf8.{Encoding, decode_sound, decode_complete}

@@ -1,14 +1,5 @@
 -- What the loop of `ungroup` keeps, and that ten bytes are enough.
-use mathlib.Core.Path.{◌≡◌, refl, sym, ◌∙◌}
-use mathlib.Core.Bool.{Bool, true, false, cond}
-use mathlib.Core.List.{List, [], ◌∷◌, ◌++◌, append-nil, append_assoc}
-use Prim.Native.Nat.{ℕ, ◌+◌, ◌≤◌, ◌<◌}
-use native.Mathlib.Numerals.{add-one}
-use native.Mathlib.Omega.{arith}
-use borrow.Author.Tests.{leb-true, leb-false}
-use lib.Dec.{leb}
-use lib.ListN.{length, take, drop, get_or, drop_of_length-le, length-append, length-take}
-use lib.Seq.{drop-cons, take_all, take_at}
+use Rattle.std.proofs.Common.{◌≡◌, refl, sym, ◌∙◌, Bool, true, false, cond, List, [], ◌∷◌, ◌++◌, append-nil, append_assoc, ℕ, ◌+◌, ◌≤◌, ◌<◌, add-one, arith, leb-true, leb-false, leb, length, take, drop, get_or, drop_of_length-le, length-append, length-take, drop-cons, take_all, take_at}
 use Rattle.arrays.specs.Arrays.{padded, same_bytes}
 use Rattle.arrays.proofs.Laws.{padded_push, padded_take, same_length}
 use Rattle.text.specs.Text.{is_digit, is_dropped, ungrouped_from, ungrouped}

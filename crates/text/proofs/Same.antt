@@ -1,14 +1,7 @@
 -- Laws of the comparison that looks at every byte: what differs is gathered by `or`.
-use mathlib.Core.Path.{◌≡◌, refl, ap, sym, ◌∙◌}
-use mathlib.Core.Bool.{Bool, true, false, cond}
-use mathlib.Core.List.{List}
-use Prim.Native.Nat.{ℕ, ◌+◌, min, ◌≤◌, ◌<◌}
-use native.Mathlib.Omega.{arith}
-use borrow.Author.Tests.{ne_eqb, eqb-true, eqb-false, leb-true, leb-false}
+use Rattle.std.proofs.Common.{◌≡◌, refl, ap, sym, ◌∙◌, Bool, true, false, cond, List, ℕ, ◌+◌, min, ◌≤◌, ◌<◌, arith, ne_eqb, eqb-true, leb-true, leb-false, eqb, leb, length, take, drop, get_or, take_all}
+use borrow.Author.Tests.{eqb-false}
 use lib.Bits.{bit_or, bit_xor, or_add_and, xor_add_and, and_le_l, and_le_r, xor_self}
-use lib.Dec.{eqb, leb}
-use lib.ListN.{length, take, drop, get_or}
-use lib.Seq.{take_all}
 use Rattle.arrays.specs.Arrays.{same_bytes}
 use Rattle.arrays.proofs.Laws.{same_step, same_end}
 

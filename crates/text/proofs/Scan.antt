@@ -1,13 +1,6 @@
 -- What the loop of `trim` keeps.
-use mathlib.Core.Path.{◌≡◌, refl, ap, sym, ◌∙◌}
-use mathlib.Core.Bool.{Bool, true, false, cond}
-use mathlib.Core.List.{List, [], ◌∷◌, ◌++◌, reverse, append-nil, append_assoc, reverse-append, reverse-reverse, reverse-cons}
-use Rattle.std.specs.Prelude.{Option, Some, None}
-use Prim.Native.Nat.{ℕ, ◌+◌, ◌-◌, ◌/◌, ◌%◌, ◌≤◌, ◌<◌}
-use native.Mathlib.Omega.{arith}
-use lib.Dec.{leb}
-use lib.ListN.{length, take, drop, length-append, length-take, length-drop, drop_of_length-le}
-use lib.Seq.{take-add, take_all, drop-drop}
+use Rattle.std.proofs.Common.{◌≡◌, refl, ap, sym, ◌∙◌, Bool, true, false, cond, List, [], ◌∷◌, ◌++◌, reverse, append-nil, append_assoc, Option, Some, None, ℕ, ◌+◌, ◌-◌, ◌/◌, ◌%◌, ◌≤◌, ◌<◌, arith, leb, length, take, drop, length-append, length-take, length-drop, drop_of_length-le, take-add, take_all, drop-drop}
+use mathlib.Core.List.{reverse-append, reverse-reverse, reverse-cons}
 use Rattle.utf8.specs.Utf8.{encode, encode_all, decode, before}
 use Rattle.text.specs.Text.{white, trim_front, trim, is_text, trimmed}
 use Rattle.utf8.specs.First.{char_of, first_char}

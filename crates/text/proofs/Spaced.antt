@@ -1,13 +1,6 @@
 -- A right code, by how it looks: `spaced_right`.
-use mathlib.Core.Path.{◌≡◌, refl, ap, sym, subst, ◌∙◌}
-use mathlib.Core.Bool.{Bool, true, false, cond, false≢true}
-use mathlib.Core.List.{List, [], ◌∷◌, ◌++◌}
-use mathlib.Core.Logic.{⊎_elim}
-use Prim.Native.Nat.{ℕ, zero, suc}
-use native.Mathlib.Omega.{arith}
-use borrow.Author.Tests.{ne_eqb, eqb-true}
-use lib.Dec.{eqb}
-use lib.ListN.{take}
+use Rattle.std.proofs.Common.{◌≡◌, refl, ap, sym, subst, ◌∙◌, Bool, true, false, cond, List, [], ◌∷◌, ◌++◌, ⊎_elim, ℕ, zero, suc, arith, ne_eqb, eqb-true, eqb, take}
+use Rattle.std.proofs.Math.Bool.{false≢true}
 use Rattle.arrays.specs.Arrays.{same_bytes}
 use Rattle.arrays.proofs.Laws.{same_refl, same_bytes_is}
 use Rattle.utf8.specs.Utf8.{within}

@@ -1,17 +1,8 @@
 -- Laws of the definitions of specs/.
-use mathlib.Core.Path.{◌≡◌, refl, ap, sym, ◌∙◌}
-use mathlib.Core.Bool.{Bool, true, false, cond}
-use mathlib.Core.List.{List}
-use Prim.Native.Nat.{ℕ, zero, suc, ◌+◌, ◌*◌, ◌-◌, ◌/◌, ◌≤◌, ◌<◌}
-use native.Mathlib.Numerals.{add-one}
-use native.Mathlib.Omega.{arith}
-use borrow.Author.Tests.{ltb-true, ltb-false}
-use lib.Dec.{ltb}
-use lib.ListN.{length, set, length-append}
+use Rattle.std.proofs.Common.{◌≡◌, refl, ap, sym, ◌∙◌, Bool, true, false, cond, List, ℕ, zero, suc, ◌+◌, ◌*◌, ◌-◌, ◌/◌, ◌≤◌, ◌<◌, add-one, arith, ltb-true, ltb-false, ltb, length, set, length-append, Some, None, unwrap_or}
 use Rattle.arrays.specs.Arrays.{padded}
 use Rattle.arrays.proofs.Laws.{padded_push}
 use Rattle.hexadecimal.specs.Hex.{value_of}
-use Rattle.std.specs.Prelude.{Some, None, unwrap_or}
 use Rattle.text_cases.specs.Cases.{nibble_of, byte_at, pairs_in, bytes_of}
 
 -- ---- digits

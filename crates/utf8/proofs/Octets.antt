@@ -1,14 +1,8 @@
 -- RFC 3629, one character: each form of the grammar is the encoding of a scalar value, and each such encoding is of one form.
-use mathlib.Core.Path.{◌≡◌, refl, ◌∙◌}
-use mathlib.Core.Logic.{◌⊎◌, inl, inr, ⊎_elim}
+use Rattle.std.proofs.Common.{◌≡◌, refl, ◌∙◌, ◌⊎◌, inl, inr, ⊎_elim, Bool, true, false, ◌&&◌, ◌||◌, List, [], ◌∷◌, ◌++◌, ℕ, ◌+◌, ◌*◌, ◌/◌, ◌%◌, ◌≤◌, ◌<◌, arith, le-leb, leb-true, leb-false, eqb-true, eq-eqb, ne_eqb, leb, eqb, length}
+use Rattle.std.proofs.Math.Bool.{false≢true}
+use borrow.Author.Tests.{lt-leb}
 use mathlib.Core.Bool
-use mathlib.Core.Bool.{Bool, true, false, ◌&&◌, ◌||◌, false≢true}
-use mathlib.Core.List.{List, [], ◌∷◌, ◌++◌}
-use Prim.Native.Nat.{ℕ, ◌+◌, ◌*◌, ◌/◌, ◌%◌, ◌≤◌, ◌<◌}
-use native.Mathlib.Omega.{arith}
-use borrow.Author.Tests.{le-leb, lt-leb, leb-true, leb-false, eqb-true, eq-eqb, ne_eqb}
-use lib.Dec.{leb, eqb}
-use lib.ListN.{length}
 use Rattle.utf8.specs.Utf8.{within, scalar, encode, utf8_tail, utf8_1, utf8_2, utf8_3, utf8_4, begins3, begins4, point2, point3, point4}
 use Rattle.utf8.specs.First.{char_of, first_char, first2, first3, first4}
 use Rattle.utf8.proofs.Ranges.{inside, outside, within_true}

@@ -1,9 +1,6 @@
 -- Laws of `within`.
-use mathlib.Core.Path.{◌≡◌, refl}
-use mathlib.Core.Bool.{Bool, true, false, ◌&&◌, false≢true}
-use Prim.Native.Nat.{ℕ, ◌≤◌}
-use borrow.Author.Tests.{le-leb, leb-true}
-use lib.Dec.{leb}
+use Rattle.std.proofs.Common.{◌≡◌, refl, Bool, true, false, ◌&&◌, ℕ, ◌≤◌, le-leb, leb-true, leb}
+use Rattle.std.proofs.Math.Bool.{false≢true}
 use Rattle.utf8.specs.Utf8.{within}
 
 pub inside : (lo hi x : ℕ) → lo ≤ x → x ≤ hi → within lo hi x ≡ true

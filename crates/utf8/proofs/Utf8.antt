@@ -1,12 +1,6 @@
 -- RFC 3629: a string is decoded exactly if it is the encoding of a list of scalar values, and to that list.
-use mathlib.Core.Path.{◌≡◌, refl, ap, ◌∙◌, subst}
-use mathlib.Core.Bool.{Bool, true, false, cond}
-use mathlib.Core.List.{List, [], ◌∷◌, ◌++◌}
-use Rattle.std.specs.Prelude.{Option, Some, None}
-use Prim.Native.Nat.{ℕ, zero, suc, ◌≤◌, ◌<◌}
-use native.Mathlib.Omega.{arith}
-use lib.ListN.{length, take, drop, length-drop, take-append-drop}
-use lib.Seq.{drop-append_seam}
+use Rattle.std.proofs.Common.{◌≡◌, refl, ap, ◌∙◌, subst, Bool, true, false, cond, List, [], ◌∷◌, ◌++◌, Option, Some, None, ℕ, zero, suc, ◌≤◌, ◌<◌, arith, length, take, drop, length-drop, take-append-drop}
+use Rattle.std.proofs.Math.Seq.{drop-append_seam}
 use Rattle.utf8.specs.Utf8.{scalar, scalars, encode, encode_all, decode, decode2, decode3, decode4, before, utf8_1, utf8_2, utf8_3, utf8_4}
 use Rattle.utf8.specs.First.{char_of, first_char, first2, first3, first4}
 use Rattle.utf8.specs.declared.Char.{Char}

@@ -1,6 +1,5 @@
 -- By the length of the input, and by what it says as a record.
-use Rattle.std.proofs.Common.{length}
-use borrow.Author.Tests.{lt-ltb, le-ltb}
+use Rattle.std.proofs.Common.{length, lt-ltb, le-ltb}
 use Rattle.listing.specs.Listing.{lines, listing_of}
 use Rattle.listing.proofs.Record.{refused_told, restored_fit}
 use Rattle.listing.proofs.list_record.Goals as goal
