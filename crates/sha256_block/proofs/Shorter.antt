@@ -1,9 +1,9 @@
 -- 4.1.2: the functions on words with fewer operations.
 use Rattle.std.proofs.Common.{◌≡◌, ℕ, zero, suc, ◌+◌, ◌-◌, ◌*◌, ◌/◌, ◌%◌, ◌^◌, ◌<◌, ◌≤◌, sym, refl, ap, ◌∙◌, subst, ap₂, lt_of_le_of_lt, add-zero, add_assoc, mod-lt, mul_assoc, add-mul, add_comm, pow-suc, arith, pow_pos, pow-add, shr-shr, shr_lt}
-use native.Mathlib.Nat.{add-mul-div_right, mul-add-mod_self_right, mul-mod_left}
-use lib.Arith.{lt-one}
-use lib.Bits.{bit_or, and_shr, xor_shr, and_mod, xor_mod, or_lt, xor_lt, xor_block, or_shifted_r}
-use lib.Pow.{shl-shr, shr_le, mod-pow-add}
+use Rattle.std.proofs.Math.Nat.{add-mul-div_right, mul-add-mod_self_right, mul-mod_left}
+use Rattle.std.proofs.Math.Arith.{lt-one}
+use Rattle.std.proofs.lemmas.Nat.{and_shr, xor_shr, and_mod, xor_mod, or_lt, xor_lt, xor_block, shl-shr, shr_le, mod-pow-add}
+use Rattle.std.specs.Int.Bits.{bit_or, or_shifted_r}
 use Rattle.sha256_block.specs.Block.{◌&◌, ◌⊕◌, SHR, ROTR, Ch, Maj, Σ₀, Σ₁, σ₀, σ₁}
 
 -- ---- half of a number, and its last digit
