@@ -11,7 +11,7 @@ ghost use Rattle.listing.specs.Steps.{first_car};
 use car_lines::Places;
 use saved_record::Store;
 
-// The lines with their length; zeros past it.
+// The lines with their length; zeros past it. No heap, so they stand in an array with room for the longest listing.
 #[derive(Clone, Copy)]
 pub struct Listing {
     pub bytes: [u8; 9414],

@@ -50,6 +50,7 @@ fn trim(s: &[u8]) -> Option<&[u8]>
     let mut start = 0;
     let mut end = 0;
     let mut at = 0;
+    // A character has up to four bytes, and `at` goes on by as many.
     while at < s.len() {
         let Char { point, size } = utf8::first_char(&s[at..])?;
         at += size;

@@ -60,6 +60,7 @@ fn pairs(n: usize) -> usize
 fn bytes_of(line: &[u8]) -> [u8; 32]
     ensures { result ≡ padded 32 0 (bytes_of line.now (pairs_in (length line.now))) }
 {
+    // Two bytes of the line for one of the array, so the places are counted.
     let mut bytes = [0; 32];
     for i in 0..pairs(line.len()) {
         bytes[i] = nibble(line[2 * i]) * 16 + nibble(line[2 * i + 1]);
