@@ -4,27 +4,31 @@
 ghost use Rattle.std.specs.Prelude.{◌≡◌};
 ghost use Rattle.dev_lock.specs.DevLock.{set_dev_unlocked, declare_production};
 
-use state::{Answer, Core, Said};
+use state::{Access, Answer, Core, Said};
 
+#[tactic(auto, unfolding(crate::specs::DevLock::set_dev_unlocked, state::specs::Checks::checked))]
 pub fn set_can_dev_write_unlocked(core: Core, unlocked: bool) -> Said
     ensures { result ≡ set_dev_unlocked core unlocked }
 {
-    let policy = core.policy;
-    let mut access = policy.access;
-    if access.production {
+    if core.policy.access.production {
         return state::replies::leave(core, Answer::NoDevLock);
     }
-    access.unlocked = unlocked;
-    let p = policy_changes::with_access(policy, access);
+    let access = Access {
+        unlocked,
+        ..core.policy.access
+    };
+    let p = policy_changes::with_access(core.policy, access);
     policy_changes::policy_changed(core, Answer::Done, p)
 }
 
+#[tactic(auto, unfolding(crate::specs::DevLock::declare_production))]
 pub fn declare_production_build(core: Core) -> Said
     ensures { result ≡ declare_production core }
 {
-    let policy = core.policy;
-    let mut access = policy.access;
-    access.production = true;
-    let p = policy_changes::with_access(policy, access);
+    let access = Access {
+        production: true,
+        ..core.policy.access
+    };
+    let p = policy_changes::with_access(core.policy, access);
     policy_changes::policy_changed(core, Answer::Done, p)
 }

@@ -1,68 +1,66 @@
 // start_validation, on a core in range (validation.rs).
 #![tactic(auto)]
 
-ghost use Rattle.std.specs.Prelude.{◌≡◌, ◌≤◌, length};
+ghost use Rattle.std.specs.Prelude.{◌≡◌, ℕ, List};
+ghost use Rattle.phones.specs.Phones.{id_of};
 ghost use Rattle.validation.specs.Calls.{new_session, challenge_for};
 ghost use Rattle.validation.specs.Calls as Calls;
 
-use start_checks::Way;
-use state::{Answer, Challenge, Core, Kind, Mark, Said, Session, Status};
+use phones::ShortId;
+use state::{Answer, Challenge, Core, Kind, Mark, Said, Session, Status, Validation};
 
-// A session as it begins.
-fn new_session(core: Core, phone: &[u8], at: usize, clock: u64) -> Session
-    requires { length phone.now ≤ 32 }
-    ensures { result ≡ new_session core phone.now at clock }
+// A session as it begins, of the phone with this id.
+#[tactic(auto, unfolding(validation::specs::Calls::new_session))]
+fn new_session(core: Core, id: ShortId, at: usize, clock: u64) -> Session
+    ensures { (phone : List ℕ) → id ≡ id_of phone → result ≡ new_session core phone at clock }
 {
-    let made = phones::make_id(phone);
-    let id = made.id;
+    // An array that is a field cannot stand in a literal.
     let car = core.policy.identity.car.digest;
-    let deadline = session_times::saturating_add(clock, core.settings.session);
     Session {
         present: true,
         number: core.validation.next,
         phone: id,
         method: at,
         car,
-        deadline,
+        deadline: session_times::saturating_add(clock, core.settings.session),
         status: Status::InProgress,
         ended: 0,
     }
 }
 
+#[tactic(auto, unfolding(validation::specs::Calls::challenge_for))]
 fn challenge_for(core: Core, at: usize, kind: Kind) -> Challenge
     ensures { result ≡ challenge_for core at kind }
 {
-    let mut c = state::replies::no_challenge();
-    c.running = true;
-    c.session = core.validation.next;
-    c.method = at;
-    if state::running::is_code(kind) {
-        c.length = core.settings.digits;
-        return c;
+    Challenge {
+        running: true,
+        session: core.validation.next,
+        method: at,
+        length: if state::running::is_code(kind) {
+            core.settings.digits
+        } else {
+            0
+        },
+        ..state::replies::no_challenge()
     }
-    c
 }
 
 // A session begins, in the place of whatever session is stored.
-fn begin(core: Core, phone: &[u8], at: usize, clock: u64, mark: Mark) -> Said
-    requires { length phone.now ≤ 32 }
-    ensures { result ≡ Calls.begin core phone.now at clock mark }
+#[tactic(auto, unfolding(validation::specs::Calls::begin))]
+fn begin(core: Core, id: ShortId, at: usize, clock: u64, mark: Mark) -> Said
+    ensures { (phone : List ℕ) → id ≡ id_of phone → result ≡ Calls.begin core phone at clock mark }
 {
-    let s = new_session(core, phone, at, clock);
-    let methods = core.methods;
-    let method = state::running::method_at(methods, at);
-    let kind = method.kind;
-    let challenge = challenge_for(core, at, kind);
-    let raised = state::replies::challenge_changed(challenge);
-    let mut v = core.validation;
-    let next = session_times::next_number(v.next);
-    v.next = next;
-    v.session = s;
+    let session = new_session(core, id, at, clock);
+    let kind = state::running::method_at(core.methods, at).kind;
+    let v = Validation {
+        session,
+        next: session_times::next_number(core.validation.next),
+        ..core.validation
+    };
     let c = state::parts::with_validation(core, v);
-    let reply = session::reply_of(c, s, clock);
     Said {
-        answer: Answer::Session(reply),
-        raised,
+        answer: Answer::Session(session::reply_of(c, session, clock)),
+        raised: state::replies::challenge_changed(challenge_for(core, at, kind)),
         shows: mark,
         core: c,
         code: mark,
@@ -81,14 +79,12 @@ pub fn start_validation(
 ) -> Said
     ensures { result ≡ Calls.start core phone.now method.now clock lent gives }
 {
-    let methods = core.methods;
-    let at = session::place_of(methods, method);
-    if 32 < phone.len() {
+    let Some(id) = phones::make_id(phone) else {
         return state::replies::leave(core, Answer::IdTooLong);
-    }
-    let way = start_checks::way_at(core, phone, at, clock, lent, gives);
-    match way {
-        Way::Refused(answer) => state::replies::leave(core, answer),
-        Way::Begins(mark) => begin(core, phone, at, clock, mark),
+    };
+    let at = session::place_of(core.methods, method);
+    match start_checks::way_at(core, phone, at, clock, lent, gives) {
+        Err(answer) => state::replies::leave(core, answer),
+        Ok(mark) => begin(core, id, at, clock, mark),
     }
 }
