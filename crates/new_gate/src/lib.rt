@@ -3,6 +3,7 @@
 
 ghost use Rattle.std.specs.Prelude.{◌≡◌, take, ◌&&◌, [], map};
 ghost use Rattle.arrays.specs.Arrays.{padded};
+ghost use Rattle.phones.specs.Phones.{id_of};
 ghost use Rattle.state.specs.Running.{no_method, clean_method};
 ghost use Rattle.range.specs.Range.{settings_fit, methods_in};
 ghost use Rattle.state.specs.declared.Answer.TheVariants.{BadSettings};
@@ -14,18 +15,25 @@ use state::{
     Queue, Session, Settings, Status, Validation,
 };
 
+#[tactic(auto, unfolding(phones::specs::Phones::id_of, arrays::specs::Arrays::padded))]
+fn no_id() -> ShortId
+    ensures { result ≡ id_of [] }
+{
+    ShortId {
+        bytes: [0; 32],
+        len: 0,
+    }
+}
+
 fn no_session() -> Session
     ensures { result ≡ no_session }
 {
-    let bytes = [0u8; 32];
-    let phone = ShortId { bytes, len: 0 };
-    let car = [0u8; 32];
     Session {
         present: false,
         number: 0,
-        phone,
+        phone: no_id(),
         method: 0,
-        car,
+        car: [0; 32],
         deadline: 0,
         status: Status::InProgress,
         ended: 0,
@@ -35,42 +43,34 @@ fn no_session() -> Session
 fn new_policy() -> Policy
     ensures { result ≡ new_policy }
 {
-    let none = state::replies::no_car();
-    let identity = Identity {
-        platform: 0,
-        confirmed: false,
-        car: none,
-    };
-    let access = Access {
-        approval: none,
-        unlocked: false,
-        production: false,
-    };
-    let fd = [false; 4];
-    let buses = Buses {
-        vehicle_read_only: true,
-        logging: false,
-        fd,
-    };
     Policy {
-        identity,
-        access,
-        buses,
+        identity: Identity {
+            platform: 0,
+            confirmed: false,
+            car: state::replies::no_car(),
+        },
+        access: Access {
+            approval: state::replies::no_car(),
+            unlocked: false,
+            production: false,
+        },
+        buses: Buses {
+            vehicle_read_only: true,
+            logging: false,
+            fd: [false; 4],
+        },
     }
 }
 
 fn new_probe() -> Probe
     ensures { result ≡ new_probe }
 {
-    let window = probe_window::no_window();
-    let heard = [false; 4];
-    let marks = [0u64; 4];
     Probe {
-        window,
+        window: probe_window::no_window(),
         attempts: 0,
         relocks: 0,
-        heard,
-        marks,
+        heard: [false; 4],
+        marks: [0; 4],
     }
 }
 
@@ -78,85 +78,66 @@ fn new_probe() -> Probe
 pub fn used_methods(list: [Method; 8], count: usize) -> [Method; 8]
     ensures { result ≡ padded 8 no_method (take count (map clean_method list)) }
 {
-    let none = state::running::no_method();
-    let mut kept = [none; 8];
-    let mut i = 0;
-    while i < 8 {
-        if count <= i {
-            return kept;
-        }
-        let lent = list[i];
-        let m = state::running::clean_method(lent);
-        kept[i] = m;
-        i += 1;
+    let mut kept = [state::running::no_method(); 8];
+    for i in 0..count.min(8) {
+        kept[i] = state::running::clean_method(list[i]);
     }
     kept
 }
 
 // Each may start and go on.
+#[tactic(auto, unfolding(crate::specs::New::new_methods))]
 fn new_methods(list: [Method; 8], count: usize) -> Methods
     ensures { result ≡ new_methods list count }
 {
-    let kept = used_methods(list, count);
-    let available = [true; 8];
-    let continues = [true; 8];
     Methods {
-        list: kept,
+        list: used_methods(list, count),
         count,
-        available,
-        continues,
+        available: [true; 8],
+        continues: [true; 8],
     }
 }
 
+#[tactic(auto, unfolding(crate::specs::New::new_core))]
 fn new_core(settings: Settings, methods: Methods) -> Core
     ensures { result ≡ new_core settings methods }
 {
-    let policy = new_policy();
-    let bytes = [0u8; 32];
-    let peer = ShortId { bytes, len: 0 };
-    let session = no_session();
-    let validation = Validation {
-        session,
-        cooldown_until: 0,
-        next: 1,
-        tries: settings.tries,
-    };
-    let probe = new_probe();
     Core {
         settings,
         methods,
-        policy,
-        peer,
-        validation,
-        probe,
+        policy: new_policy(),
+        peer: no_id(),
+        validation: Validation {
+            session: no_session(),
+            cooldown_until: 0,
+            next: 1,
+            tries: settings.tries,
+        },
+        probe: new_probe(),
     }
 }
 
 fn made_gate(answer: Answer, core: Core) -> Outcome
     ensures { result ≡ made_gate (record { answer = answer; core = core }) }
 {
-    let signals = state::replies::no_signals();
-    let paired = phones::empty_list();
-    let store = validations::no_validations();
-    let phones = Phones { paired, store };
-    let code = [0u8; 9];
-    let save = save::no_save();
-    let queue = Queue { count: 0, last: 3 };
-    let gate = Gate {
-        core,
-        phones,
-        save,
-        queue,
-        code,
-    };
     Outcome {
         answer,
-        signals,
-        gate,
+        signals: state::replies::no_signals(),
+        gate: Gate {
+            core,
+            phones: Phones {
+                paired: phones::empty_list(),
+                store: validations::no_validations(),
+            },
+            save: save::no_save(),
+            queue: Queue { count: 0, last: 3 },
+            code: [0; 9],
+        },
     }
 }
 
 // 25: no methods, each setting at its least.
+#[tactic(auto, unfolding(crate::specs::New::new_methods))]
 fn least_gate(list: [Method; 8]) -> Outcome
     ensures { result ≡ made_gate (record { answer = BadSettings; core = new_core least_settings (new_methods [] 0) }) }
 {
@@ -168,27 +149,25 @@ fn least_gate(list: [Method; 8]) -> Outcome
         keep: 0,
         bonded: 0,
     };
-    let methods = new_methods(list, 0);
-    let core = new_core(settings, methods);
-    made_gate(Answer::BadSettings, core)
+    made_gate(
+        Answer::BadSettings,
+        new_core(settings, new_methods(list, 0)),
+    )
 }
 
 fn fits(settings: Settings, list: [Method; 8], count: usize) -> bool
     ensures { result ≡ (settings_fit settings && methods_in list count) }
 {
-    if range::settings_fit(settings) {
-        return range::methods_in(list, count);
-    }
-    false
+    range::settings_fit(settings) && range::methods_in(list, count)
 }
 
+#[tactic(auto, unfolding(crate::specs::New::new_gate, crate::specs::New::made_core))]
 pub fn new_gate(settings: Settings, list: [Method; 8], count: usize) -> Outcome
     ensures { result ≡ new_gate settings list count }
 {
     if fits(settings, list, count) {
-        let methods = new_methods(list, count);
-        let core = new_core(settings, methods);
-        return made_gate(Answer::Done, core);
+        made_gate(Answer::Done, new_core(settings, new_methods(list, count)))
+    } else {
+        least_gate(list)
     }
-    least_gate(list)
 }
