@@ -4,25 +4,28 @@
 ghost use Rattle.std.specs.Prelude.{◌≡◌};
 ghost use Rattle.replay_arguments.specs.Arguments.{asked_by};
 
-// What the arguments ask for: what each line gives, or states too; otherwise the place of an argument that is not known.
-#[derive(Clone, Copy)]
+// What each line gives, or states too.
+#[derive(Clone, Copy, PartialEq, Eq)]
 pub enum Asked {
     Lines,
     States,
-    Unknown(usize),
 }
 
-pub fn asked_by(count: usize, first: &[u8]) -> Asked
+// The place of an argument that is not known.
+#[derive(Clone, Copy, PartialEq, Eq)]
+pub struct UnknownArgument(pub usize);
+
+#[tactic(auto, using(arrays::proofs::Laws::same_is_pointwise), unfolding(crate::specs::Arguments::asked_by))]
+pub fn asked_by(count: usize, first: &[u8]) -> Result<Asked, UnknownArgument>
     ensures { result ≡ asked_by count first.now }
 {
     if count < 2 {
-        return Asked::Lines;
+        Ok(Asked::Lines)
+    } else if first != b"--state".as_slice() {
+        Err(UnknownArgument(1))
+    } else if count < 3 {
+        Ok(Asked::States)
+    } else {
+        Err(UnknownArgument(2))
     }
-    if arrays::same_bytes(first, b"--state") {
-        if count < 3 {
-            return Asked::States;
-        }
-        return Asked::Unknown(2);
-    }
-    Asked::Unknown(1)
 }
