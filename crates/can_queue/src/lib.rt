@@ -4,20 +4,12 @@
 ghost use Rattle.std.specs.Prelude.{◌≡◌, [], ◌-◌, ◌<◌};
 ghost use Rattle.phones.specs.Phones.{made_id};
 ghost use Rattle.can_queue.specs.Calls as Calls;
-ghost use Rattle.can_queue.specs.Steps.{look_of, looked, sent_by};
+ghost use Rattle.can_queue.specs.Steps.{looked, sent_by};
 
 use frames::{CanFrame, TxClass};
-use phones::{MadeId, ShortId};
+use phones::ShortId;
 use state::{Answer, Queue};
 use waiting_list::Waiting;
-
-// What is said of a frame before it is known whether there is room, and the id that its record has.
-#[derive(Clone, Copy)]
-struct Look {
-    passes: bool,
-    answer: Answer,
-    owner: ShortId,
-}
 
 // What sending a frame says.
 #[derive(Clone, Copy)]
@@ -28,7 +20,7 @@ pub struct Sent {
 }
 
 // A platform frame has no owner: what is lent beside it is not looked at.
-fn owner_for(class: TxClass, owner: &[u8]) -> MadeId
+fn owner_for(class: TxClass, owner: &[u8]) -> Option<ShortId>
     ensures { result ≡ made_id (Calls.owner_for class owner.now) }
 {
     match class {
@@ -37,35 +29,18 @@ fn owner_for(class: TxClass, owner: &[u8]) -> MadeId
     }
 }
 
-fn looking(passes: bool, answer: Answer, made: MadeId) -> Look
-    ensures { result ≡ look_of passes answer made }
-{
-    let owner = made.id;
-    Look {
-        passes,
-        answer,
-        owner,
-    }
-}
-
-// 24, then 18, then 26.
-#[tactic(auto, using(phones::proofs::Made::made_fits, phones::proofs::Made::made_long), unfolding(crate::specs::Steps::looked, state::specs::Checks::checked))]
-fn look_at(frame: CanFrame, class: TxClass, owner: &[u8]) -> Look
+// The id of a frame's record, or what refuses it whatever waits: 24, then 18, then 26.
+fn look_at(frame: CanFrame, class: TxClass, owner: &[u8]) -> Result<ShortId, Answer>
     ensures { result ≡ looked frame class owner.now }
 {
-    let id = frame.id;
-    let made = owner_for(class, owner);
-    let exists = frames::bus_exists(frame.bus);
-    if frames::can_id_in_range(id) {
-        if made.ok {
-            if exists {
-                return looking(true, Answer::Done, made);
-            }
-            return looking(false, Answer::BadBus, made);
-        }
-        return looking(false, Answer::IdTooLong, made);
+    if !frames::can_id_in_range(frame.id) {
+        return Err(Answer::BadFrame);
     }
-    looking(false, Answer::BadFrame, made)
+    match owner_for(class, owner) {
+        None => Err(Answer::IdTooLong),
+        Some(id) if frames::bus_exists(frame.bus) => Ok(id),
+        Some(_) => Err(Answer::BadBus),
+    }
 }
 
 // A refusal leaves the list.
@@ -88,39 +63,35 @@ pub fn send_can_frame(
 ) -> Sent
     ensures { result ≡ sent_by all (Calls.sending q all frame class owner.now) }
 {
-    let x = look_at(frame, class, owner);
-    if x.passes {
-        if 15 < q.count {
-            return unsent(q, all, Answer::QueueFull);
+    match look_at(frame, class, owner) {
+        Err(answer) => unsent(q, all, answer),
+        Ok(owner) => {
+            if 15 < q.count {
+                return unsent(q, all, Answer::QueueFull);
+            }
+            let w = Waiting {
+                frame,
+                class,
+                owner,
+            };
+            Sent {
+                answer: Answer::Done,
+                queue: Queue {
+                    count: q.count + 1,
+                    ..q
+                },
+                all: waiting_list::put_record(all, q.count, w),
+            }
         }
-        let owner = x.owner;
-        let w = Waiting {
-            frame,
-            class,
-            owner,
-        };
-        let more = waiting_list::put_record(all, q.count, w);
-        let queue = Queue {
-            count: q.count + 1,
-            last: q.last,
-        };
-        return Sent {
-            answer: Answer::Done,
-            queue,
-            all: more,
-        };
     }
-    let answer = x.answer;
-    unsent(q, all, answer)
 }
 
 // What a list of another length answers: 24, 18 and 26 come before 27.
 pub fn refused(q: Queue, frame: CanFrame, class: TxClass, owner: &[u8]) -> Answer
     ensures { result ≡ (Calls.sending q [] frame class owner.now).answer }
 {
-    let x = look_at(frame, class, owner);
-    if x.passes {
-        return Answer::QueueFull;
+    match look_at(frame, class, owner) {
+        Ok(_) => Answer::QueueFull,
+        Err(answer) => answer,
     }
-    x.answer
 }

@@ -3,12 +3,12 @@ use mathlib.Core.List.{[]}
 use Rattle.can_queue.proofs.Laws.{sending_looked}
 use Rattle.can_queue.proofs.refused.Goals as goal
 
-pub returns-then-x : goal.returns-then-x
-returns-then-x c =
+pub returns-in-Ok : goal.returns-in-Ok
+returns-in-Ok c =
     let a = c.args in
-    rw (sending_looked a.q [] a.frame a.class a.owner.now, ← c.look_at-x.ensures, c.if-x.true, or-true)
+    rw (sending_looked a.q [] a.frame a.class a.owner.now, ← c.in-Ok.ensures, or-true)
 
-pub returns : goal.returns
-returns c =
+pub returns-in-Err : goal.returns-in-Err
+returns-in-Err c =
     let a = c.args in
-    rw (sending_looked a.q [] a.frame a.class a.owner.now, ← c.look_at-x.ensures, c.if-x.false)
+    rw (sending_looked a.q [] a.frame a.class a.owner.now, ← c.in-Err.ensures)
