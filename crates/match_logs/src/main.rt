@@ -4,29 +4,23 @@
 
 mod texts;
 
-ghost use Rattle.std.specs.Prelude.{length};
+ghost use Rattle.std.specs.Prelude.{◌≤◌, length, IfSome};
 ghost use Rattle.input.specs.Input.{Within};
 
-use input::Input;
 use std::env::Env;
 use std::fs::Files;
-use std::io::{Error, ErrorKind};
+use std::io::{self, Error, ErrorKind};
 use std::{fs, str};
 
 // Reads the file of a path, which is text in UTF-8.
-fn read_path(rt: &impl Files, path: &[u8], buf: &mut [u8]) -> Input
+fn read_path(rt: &impl Files, path: &[u8], buf: &mut [u8]) -> io::Result<usize>
     ensures { Within (length buf.new) result }
 {
     let Ok(name) = str::from_utf8(path) else {
-        return Input::Failed(Error::new(ErrorKind::InvalidFilename, "not UTF-8"));
+        return Err(Error::new(ErrorKind::InvalidFilename, "not UTF-8"));
     };
-    match fs::open(rt, name) {
-        Ok(file) => {
-            let mut file = file;
-            input::read_input(&mut file, buf)
-        }
-        Err(e) => Input::Failed(e),
-    }
+    let mut file = fs::open(rt, name)?;
+    input::read_input(&mut file, buf)
 }
 
 // Says of a path that it could not be read, and why.
@@ -35,18 +29,22 @@ fn fail(err: &impl Print, path: &[u8], error: Error) {
     let _ = println!(err; ": {error}");
 }
 
-// Reads the file that an argument names.
-fn read_file(rt: &(impl Env + Files), err: &impl Print, place: usize, buf: &mut [u8]) -> Input
-    ensures { Within (length buf.new) result }
+// Reads the file that an argument names; where that fails, says so.
+fn read_file(
+    rt: &(impl Env + Files),
+    err: &impl Print,
+    place: usize,
+    buf: &mut [u8],
+) -> Option<usize>
+    ensures { IfSome result (λ n. n ≤ length buf.new) }
 {
     let mut path = [0u8; 4096];
     let n = input::arg(rt, place, &mut path);
-    let got = read_path(rt, &path[..n], buf);
-    match got {
-        Input::Bytes(k) => Input::Bytes(k),
-        Input::Failed(e) => {
+    match read_path(rt, &path[..n], buf) {
+        Ok(k) => Some(k),
+        Err(e) => {
             fail(err, &path[..n], e);
-            Input::Failed(e)
+            None
         }
     }
 }
@@ -66,10 +64,10 @@ fn main(rt: HostRuntime) {
     let err = rt.stderr();
     let mut journal = [0u8; 41554];
     let mut recorder = [0u8; 41554];
-    let Input::Bytes(n) = read_file(&rt, &err, 1, &mut journal) else {
+    let Some(n) = read_file(&rt, &err, 1, &mut journal) else {
         return;
     };
-    let Input::Bytes(m) = read_file(&rt, &err, 2, &mut recorder) else {
+    let Some(m) = read_file(&rt, &err, 2, &mut recorder) else {
         return;
     };
     print_answer(&rt, &journal[..n], &recorder[..m]);

@@ -1,58 +1,44 @@
 // Two logs as texts: what is read, what is answered, and its line.
-ghost use Rattle.std.specs.Prelude.{◌≡◌, [], ◌∷◌, length};
+ghost use Rattle.std.specs.Prelude.{◌≡◌, ◌≤◌, List, [], ◌∷◌, length, Ok, Err, MatchResult};
 ghost use Rattle.ascii.specs.Ascii.{ascii};
 ghost use Rattle.decimal.specs.Decimal.{decimal_of};
+ghost use Rattle.log_entries.specs.Entries.{Entry};
 ghost use Rattle.replay_page.specs.Page.{page, text};
 ghost use Rattle.frame_lines.specs.Walk.{Laid, lay};
-ghost use Rattle.match_logs.specs.Texts.{match_texts, is_read, fault_of, Small, log_name, words, answer_line};
+ghost use Rattle.frame_log.specs.Logs.{reading, log_read};
+ghost use Rattle.match_logs.specs.Texts.{match_texts, fault_of, Small, log_name, words, answer_line};
 
-use frame_log::LogAnswer;
-use matcher::{Log, MatchAnswer};
+use frame_log::{LogError, ReadLog};
+use matcher::{Log, LogFault, Match};
 
-fn is_read(answer: LogAnswer) -> bool
-    ensures { result ≡ is_read answer }
+// What is answered for a log that is refused.
+fn fault_of(log: Log, error: LogError) -> LogFault
+    ensures { result ≡ fault_of log error }
 {
-    match answer {
-        LogAnswer::Read => true,
-        LogAnswer::BadLine(_) => false,
-        LogAnswer::TimeBack(_) => false,
-        LogAnswer::TooManyLines => false,
+    match error {
+        LogError::BadLine(n) => LogFault::BadLine(log, n),
+        LogError::TimeBack(n) => LogFault::TimeBack(log, n),
+        LogError::TooManyLines => LogFault::TooManyLines(log),
     }
 }
 
-// The answer for a log that is refused.
-fn fault_of(log: Log, answer: LogAnswer) -> MatchAnswer
-    ensures { result ≡ fault_of log answer }
+// What a log says.
+fn read(log: Log, s: &[u8]) -> Result<ReadLog, LogFault>
+    ensures { MatchResult result (λ r. (es : List Entry) × (reading s.now ≡ Ok es) × (r ≡ log_read es) × (r.log.count ≤ 512)) (λ f. (e : LogError) × (reading s.now ≡ Err e) × (f ≡ fault_of log e)) }
 {
-    match answer {
-        LogAnswer::Read => MatchAnswer::Matched,
-        LogAnswer::BadLine(n) => MatchAnswer::BadLine(log, n),
-        LogAnswer::TimeBack(n) => MatchAnswer::TimeBack(log, n),
-        LogAnswer::TooManyLines => MatchAnswer::TooManyLines(log),
-    }
+    frame_log::read_log(s).map_err(|e| fault_of(log, e))
 }
 
 // The journal whole, then the recorder, then the match of both.
-pub fn match_texts(journal: &[u8], recorder: &[u8]) -> MatchAnswer
+#[tactic(auto, unfolding(crate::specs::Texts::match_texts))]
+pub fn match_texts(journal: &[u8], recorder: &[u8]) -> Result<Match, LogFault>
     ensures { result ≡ match_texts journal.now recorder.now }
 {
-    let j = frame_log::read_log(journal);
-    let sent = j.answer;
-    if is_read(sent) {
-        let r = frame_log::read_log(recorder);
-        let seen = r.answer;
-        if is_read(seen) {
-            let a = j.log;
-            let b = r.log;
-            let s = j.times;
-            let t = r.times;
-            let n = a.count;
-            let m = b.count;
-            return matcher::match_logs(a, &s[..n], b, &t[..m]);
-        }
-        return fault_of(Log::Recorder, seen);
-    }
-    fault_of(Log::Journal, sent)
+    let j = read(Log::Journal, journal)?;
+    let r = read(Log::Recorder, recorder)?;
+    let sent = &j.times[..j.log.count];
+    let seen = &r.times[..r.log.count];
+    matcher::match_logs(j.log, sent, r.log, seen)
 }
 
 #[tactic(auto, unfolding(replay_page::specs::Page::text))]
@@ -66,6 +52,7 @@ fn put_log(out: &mut [u8], at: usize, log: Log) -> usize
 }
 
 // A refusal's name, the log and the line.
+#[tactic(auto, unfolding(frame_lines::specs::Walk::lay, replay_page::specs::Page::item))]
 fn put_fault(out: &mut [u8], name: &[u8], log: Log, line: usize) -> usize
     ensures { page out.new result ≡ lay (name.now ∷ log_name log ∷ ascii " line=" ∷ decimal_of line ∷ []) (page out.old 0) }
 {
@@ -74,6 +61,7 @@ fn put_fault(out: &mut [u8], name: &[u8], log: Log, line: usize) -> usize
     replay_page::put_item(out, k, b" line=", line as u64)
 }
 
+#[tactic(auto, unfolding(frame_lines::specs::Walk::lay))]
 fn put_over(out: &mut [u8], log: Log) -> usize
     ensures { page out.new result ≡ lay (ascii "answer=38/TooManyLines" ∷ log_name log ∷ []) (page out.old 0) }
 {
@@ -81,22 +69,32 @@ fn put_over(out: &mut [u8], log: Log) -> usize
     put_log(out, k, log)
 }
 
+// The words of a refusal.
+#[tactic(auto, unfolding(frame_lines::specs::Walk::lay, replay_page::specs::Page::item))]
+fn put_refusal(out: &mut [u8], fault: LogFault) -> usize
+    ensures { (page out.new result ≡ lay (words (Err fault)) (page out.old 0)) × Small (Err fault) }
+{
+    match fault {
+        LogFault::BadLine(log, n) => put_fault(out, b"answer=36/BadLine", log, n),
+        LogFault::TimeBack(log, n) => put_fault(out, b"answer=37/TimeBack", log, n),
+        LogFault::TooManyLines(log) => put_over(out, log),
+    }
+}
+
 // The words of an answer.
 #[tactic(auto, unfolding(frame_lines::specs::Walk::lay, replay_page::specs::Page::item))]
-fn put_words(out: &mut [u8], answer: MatchAnswer) -> usize
+fn put_words(out: &mut [u8], answer: Result<Match, LogFault>) -> usize
     ensures { (page out.new result ≡ lay (words answer) (page out.old 0)) × Small answer }
 {
     match answer {
-        MatchAnswer::Matched => replay_page::put_text(out, 0, b"answer=yes"),
-        MatchAnswer::StopsAt(n) => replay_page::put_item(out, 0, b"answer=no line=", n as u64),
-        MatchAnswer::BadLine(log, n) => put_fault(out, b"answer=36/BadLine", log, n),
-        MatchAnswer::TimeBack(log, n) => put_fault(out, b"answer=37/TimeBack", log, n),
-        MatchAnswer::TooManyLines(log) => put_over(out, log),
+        Ok(Match::Matched) => replay_page::put_text(out, 0, b"answer=yes"),
+        Ok(Match::StopsAt(n)) => replay_page::put_item(out, 0, b"answer=no line=", n as u64),
+        Err(fault) => put_refusal(out, fault),
     }
 }
 
 // Writes the line of an answer over the front of `out`, and answers its length: all of it fits.
-pub fn put_answer(out: &mut [u8], answer: MatchAnswer) -> usize
+pub fn put_answer(out: &mut [u8], answer: Result<Match, LogFault>) -> usize
     requires { length out.old ≡ 64 }
     ensures { (page out.new result ≡ text (10 ∷ []) (lay (words answer) (page out.old 0))) × Laid 64 (page out.new result) (answer_line answer) }
 {
