@@ -5,10 +5,10 @@ use Rattle.convert.proofs.print_converted.Goals as goal
 
 pub slice_bounds-out-end : goal.slice_bounds-out-end
 slice_bounds-out-end g c =
-    let r = c.convert_phone_validations-converted in
-    given_fits r.result r.new.out c.args.saved.now c.args.two (replicate 4358 0) r.ensures (search rules) c.in-Done.is
+    let r = c.convert_phone_validations in
+    given_fits c.in-Ok.n r.new.out c.args.saved.now c.args.two (replicate 4358 0) (rw (← c.in-Ok.is) r.ensures) (search rules)
 
 pub slice_bounds-print-end : goal.slice_bounds-print-end
 slice_bounds-print-end g c =
-    let r = c.convert_phone_validations-converted in
-    sym (length-take-le r.result.room r.new.out (given_fits r.result r.new.out c.args.saved.now c.args.two (replicate 4358 0) r.ensures (search rules) c.in-Done.is))
+    let r = c.convert_phone_validations in
+    sym (length-take-le c.in-Ok.n r.new.out (given_fits c.in-Ok.n r.new.out c.args.saved.now c.args.two (replicate 4358 0) (rw (← c.in-Ok.is) r.ensures) (search rules)))
