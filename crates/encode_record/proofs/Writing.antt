@@ -1,16 +1,16 @@
 -- The record written: the bytes before the cars, then the part of each car, zeros past them.
-use mathlib.Core.Path.{◌≡◌, refl, ◌∙◌}
-use mathlib.Core.List.{List, [], ◌∷◌, ◌++◌, append_assoc, append-nil}
-use Prim.Native.Nat.{ℕ, ◌+◌, ◌*◌, ◌≤◌, ◌<◌}
-use native.Mathlib.Numerals.{add-one}
-use native.Mathlib.Omega.{arith}
-use lib.ListN.{length, take, get_or, set, replicate, length-append, length-replicate, length-set}
+use Rattle.std.proofs.Common.{◌≡◌, refl, sym, ◌∙◌, List, [], ◌∷◌, ◌++◌, append_assoc, append-nil, ℕ, ◌+◌, ◌*◌, ◌≤◌, ◌<◌, min, add-one, arith, length, take, get_or, replicate, length-append}
+use lib.ListN.{set, length-set, length-map, length-replicate, get_or-map}
 use lib.Seq.{take_all, take-suc}
 use Rattle.arrays.specs.Arrays.{padded, put}
 use Rattle.arrays.proofs.Laws.{padded_push, put_length, put_padded}
 use Rattle.phone_fields.specs.PhoneFields.{fields}
 use Rattle.phone_fields.proofs.Writing.{put_byte, put_put}
+use Rattle.saved_record.specs.declared.CarPhones.{CarPhones}
 use Rattle.saved_record.specs.declared.SavedRecord.{SavedRecord}
+use Rattle.saved_record.specs.declared.Store.{Store}
+use Rattle.saved_record.specs.Store.{car_of, cars_of}
+use Rattle.saved_record.proofs.Laws.{used, used_clamped, used_length}
 use Rattle.saved_record.specs.SavedRecord.{CarIds, car_part, car_parts, encoded, record_of, no_record}
 use Rattle.encode_record.specs.Steps.{PutPart}
 
@@ -84,8 +84,29 @@ filled_all (c ∷ cs) bytes len i w some_cars h =
     let b : bytes ≡ padded 4358 0 (2 ∷ length (c ∷ cs) ∷ car_parts (c ∷ cs)) = rw full at w.holds in
     λ j. record { bytes = b j; len = l j }
 
+-- ---- the cars in use
+
 -- an empty store
-pub none_written : (cs : List CarIds) → length cs ≡ 0 → no_record ≡ record_of (encoded cs)
+pub none_written : (s : Store) (n : ℕ) → length s.cars ≡ 4 → n ≡ min s.count 4 → n ≡ 0 → no_record ≡ record_of (encoded (cars_of s))
 unfolding no_record encoded
-none_written [] h = refl
-none_written (c ∷ cs) h = absurd (omega arith)
+none_written s n far en z = go (cars_of s) (sym (used_clamped s n far en) ∙ rw z)
+  where
+    go : (cs : List CarIds) → cs ≡ [] → no_record ≡ record_of (encoded cs)
+    go cs e = rw e
+
+module _ (s : Store) (n : ℕ) (far : length s.cars ≡ 4) (en : n ≡ min s.count 4) where
+  many : length (used n s.cars) ≡ n
+  many = used_length n s.cars (omega arith)
+
+  pub head : Filled (used n s.cars) (set (set (replicate 4358 0) 0 2) 1 n) 2 0
+  head = filled_none (used n s.cars) n many
+
+  module _ (bytes : List ℕ) (len i : ℕ) (w : Filled (used n s.cars) bytes len i) where
+    pub next : (d : CarPhones) (after : List ℕ) (end : ℕ) → i < length (take n s.cars) → PutPart bytes len (car_of (get_or (take n s.cars) i d)) after end → Filled (used n s.cars) after end (i + 1)
+    next d after end h p =
+        let m = many in
+        let l = length-map (take n s.cars) car_of in
+        filled_more (used n s.cars) bytes len i w (car_of d) (omega arith) after end (omega arith) (rw (get_or-map car_of (take n s.cars) i d) p)
+
+    pub written : (n ≡ 0 → ⊥) → length (take n s.cars) ≤ i → ◌≡◌ {A = SavedRecord} (record { bytes = bytes; len = len }) (record_of (encoded (cars_of s)))
+    written some h = let m = many in let l = length-map (take n s.cars) car_of in rw (← used_clamped s n far en) (filled_all (used n s.cars) bytes len i w (λ z. some (sym m ∙ z)) (omega arith))

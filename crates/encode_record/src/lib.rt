@@ -14,12 +14,9 @@ fn put_car(c: CarPhones, out: &mut [u8], at: usize) -> usize
     requires { at + 1089 ≤ length out.old }
     ensures { PutPart out.old at (car_of c) out.new result }
 {
-    let car = c.car;
-    let phones = c.phones;
-    let n = phones::count(phones);
-    arrays::put(out, at, &car);
-    out[at + 32] = n as u8;
-    phone_fields::put_fields(phones, out, at + 33)
+    arrays::put(out, at, &c.car);
+    out[at + 32] = phones::count(c.phones) as u8;
+    phone_fields::put_fields(c.phones, out, at + 33)
 }
 
 // The record of a store; zero bytes where it is empty.
@@ -30,16 +27,12 @@ pub fn encode_phone_validations(store: Store) -> SavedRecord
     if n == 0 {
         return saved_record::no_record();
     }
-    let cars = store.cars;
-    let mut bytes = [0u8; 4358];
+    let mut bytes = [0; 4358];
     bytes[0] = 2;
     bytes[1] = n as u8;
     let mut len = 2;
-    let mut i = 0;
-    while i < n {
-        let car = cars[i];
-        len = put_car(car, &mut bytes, len);
-        i += 1;
+    for car in &store.cars[..n] {
+        len = put_car(*car, &mut bytes, len);
     }
     SavedRecord { bytes, len }
 }

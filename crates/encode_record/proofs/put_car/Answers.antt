@@ -1,9 +1,5 @@
 -- The digest, the count and the phones, each right after the one before.
-use mathlib.Core.Path.{◌≡◌, ◌∙◌}
-use Prim.Native.Nat.{◌≤◌}
-use native.Mathlib.Omega.{arith}
-use borrow.Author.Rules.{rules}
-use lib.ListN.{length, length-set}
+use Rattle.std.proofs.Common.{◌≡◌, ◌≤◌, ◌∙◌, arith, rules, length, length-set}
 use Rattle.phones.specs.Phones.{phones_of}
 use Rattle.phones.proofs.Owned.{owned_count}
 use Rattle.phone_fields.specs.PhoneFields.{fields}
@@ -12,9 +8,6 @@ use Rattle.saved_record.proofs.Parts.{part_length}
 use Rattle.encode_record.proofs.Writing.{put_part}
 use Rattle.phone_fields.proofs.Laws.{owned_fields}
 use Rattle.encode_record.proofs.put_car.Goals as goal
-
-pub put-requires : goal.put-requires
-put-requires c = let car : length c.args.c.car ≡ 32 = search rules in omega arith
 
 pub overflow_cast-out : goal.overflow_cast-out
 overflow_cast-out c = let few : length (phones_of c.args.c.phones) ≤ 32 = search (rules, owned_count) in omega arith
@@ -32,7 +25,7 @@ returns c =
     let l = part_length (car_of c.args.c) in
     let put = c.put_fields.ensures in
     record {
-      bytes = put.1 ∙ rw c.put.ensures (put_part c.args.out.now c.args.at (car_of c.args.c) c.count-n.result far c.count-n.ensures (omega arith));
+      bytes = put.1 ∙ rw c.put.ensures (put_part c.args.out.now c.args.at (car_of c.args.c) c.count.result far c.count.ensures (omega arith));
       place = put.0 ∙ (omega arith);
       short = omega arith;
     }
