@@ -2,12 +2,13 @@
 // in canonical form.
 #![tactic(auto)]
 
-ghost use Rattle.std.specs.Prelude.{◌≡◌, not, ◌&&◌, [], ltb, length, drop};
+ghost use Rattle.std.specs.Prelude.{◌≡◌, ◌≤◌, not, ◌&&◌, [], ltb, length, drop, map, position};
+ghost use Rattle.arrays.specs.Arrays.{same_bytes};
 ghost use Rattle.phones.specs.Ids.{contains, any_in};
 ghost use Rattle.phones.specs.Phones.{id_bytes, phones_of};
 ghost use Rattle.saved_record.specs.Store.{car_of, laid_car, cars_of, store_of};
 ghost use Rattle.validations.specs.Store.{record_for, phones_for, is_full};
-ghost use Rattle.validations.specs.Places.{place_of, place_among};
+ghost use Rattle.validations.specs.Places.{place_of, ListPasses};
 
 use phones::{PhoneList, ShortId};
 use saved_record::{CarPhones, SavedRecord, Store};
@@ -19,6 +20,7 @@ pub fn no_validations() -> Store
     saved_record::empty_store()
 }
 
+#[tactic(auto, unfolding(crate::specs::Store::record_for))]
 pub fn record_for(s: Store) -> SavedRecord
     ensures { result ≡ record_for (cars_of s) }
 {
@@ -26,196 +28,120 @@ pub fn record_for(s: Store) -> SavedRecord
 }
 
 // How many cars are in use.
+#[tactic(auto, using(crate::proofs::Laws::cars_length, arrays::proofs::Laws::long_map))]
 pub fn car_count(s: Store) -> usize
     ensures { result ≡ length (cars_of s) }
 {
     saved_record::clamp_cars(s.count)
 }
 
-// The place of the first digest in use that is this one; the number in use if there is none.
-fn place_among(
-    n: usize,
-    first: [u8; 32],
-    second: [u8; 32],
-    third: [u8; 32],
-    fourth: [u8; 32],
-    car: [u8; 32],
-) -> usize
-    ensures { result ≡ place_among n first second third fourth car }
+// The place of the first car with this digest.
+fn position_in(cars: &[CarPhones], car: [u8; 32]) -> Option<usize>
+    ensures { result ≡ position (λ c. same_bytes c.car car) cars.now }
 {
-    if saved_record::is_car(0 < n, first, car) {
-        return 0;
-    }
-    if saved_record::is_car(1 < n, second, car) {
-        return 1;
-    }
-    if saved_record::is_car(2 < n, third, car) {
-        return 2;
-    }
-    if saved_record::is_car(3 < n, fourth, car) {
-        return 3;
-    }
-    saved_record::clamp_cars(n)
+    cars.iter().position(|c| saved_record::same_car(c.car, car))
 }
 
-// The place of the car with this digest; the number of cars if there is none. The four places are written out, here and where the
-// list at one is searched: at a running place the cars would be copied whole.
+// The place of the car with this digest; the number of cars if there is none.
 pub fn place_of(s: Store, car: [u8; 32]) -> usize
     ensures { result ≡ place_of car (cars_of s) }
 {
-    let cars = s.cars;
-    let one = cars[0];
-    let two = cars[1];
-    let three = cars[2];
-    let four = cars[3];
-    let first = one.car;
-    let second = two.car;
-    let third = three.car;
-    let fourth = four.car;
-    place_among(s.count, first, second, third, fourth, car)
+    let n = saved_record::clamp_cars(s.count);
+    position_in(&s.cars[..n], car).unwrap_or(n)
 }
 
 // The phones of the car with this digest; none if it is not in the store.
+#[tactic(auto, using(arrays::proofs::Laws::long_map))]
 pub fn phones_for(s: Store, car: [u8; 32]) -> PhoneList
     ensures { phones_of result ≡ phones_for car (cars_of s) }
 {
     let at = place_of(s, car);
     if at < car_count(s) {
-        let cars = s.cars;
-        let one = cars[at];
-        return one.phones;
+        s.cars[at].phones
+    } else {
+        phones::empty_list()
     }
-    phones::empty_list()
+}
+
+// Whether the list of the car with this digest passes a test; not if there is no such car. The four places are written out: a list
+// at a running place would be copied (docs/BENCHMARKS.md).
+fn list_passes<F: Fn(PhoneList) -> bool>(cars: &[CarPhones], car: [u8; 32], test: F) -> bool
+    requires callable { F.IsAlwaysCallable test }
+    requires few { length cars.now ≤ 4 }
+    ensures { ListPasses (F.post test) (phones_for car (map car_of cars.now)) result }
+{
+    match position_in(cars, car) {
+        None => false,
+        Some(0) => test(cars[0].phones),
+        Some(1) => test(cars[1].phones),
+        Some(2) => test(cars[2].phones),
+        Some(_) => test(cars[3].phones),
+    }
 }
 
 // Whether the car with this digest lists the phone.
 pub fn car_lists(s: Store, car: [u8; 32], id: &[u8]) -> bool
     ensures { result ≡ contains id.now (phones_for car (cars_of s)) }
 {
-    let at = place_of(s, car);
-    if car_count(s) <= at {
-        return false;
-    }
-    let cars = s.cars;
-    if at == 0 {
-        let one = cars[0];
-        let list = one.phones;
-        return phones::contains(list, id);
-    }
-    if at == 1 {
-        let one = cars[1];
-        let list = one.phones;
-        return phones::contains(list, id);
-    }
-    if at == 2 {
-        let one = cars[2];
-        let list = one.phones;
-        return phones::contains(list, id);
-    }
-    let one = cars[3];
-    let list = one.phones;
-    phones::contains(list, id)
+    list_passes(
+        &s.cars[..saved_record::clamp_cars(s.count)],
+        car,
+        |list| phones::contains(list, id),
+    )
 }
 
 // Whether the car with this digest lists some phone of the list.
 pub fn car_lists_any(s: Store, car: [u8; 32], others: PhoneList) -> bool
     ensures { result ≡ any_in (phones_of others) (phones_for car (cars_of s)) }
 {
-    let at = place_of(s, car);
-    if car_count(s) <= at {
-        return false;
-    }
-    let cars = s.cars;
-    if at == 0 {
-        let one = cars[0];
-        let list = one.phones;
-        return phones::any_in(list, others);
-    }
-    if at == 1 {
-        let one = cars[1];
-        let list = one.phones;
-        return phones::any_in(list, others);
-    }
-    if at == 2 {
-        let one = cars[2];
-        let list = one.phones;
-        return phones::any_in(list, others);
-    }
-    let one = cars[3];
-    let list = one.phones;
-    phones::any_in(list, others)
-}
-
-// A list is full without the phone.
-fn full_without(list: PhoneList, p: ShortId) -> bool
-    ensures { result ≡ (ltb 31 (length (phones_of list)) && not (contains (id_bytes p) (phones_of list))) }
-{
-    if 31 < phones::count(list) {
-        return !phones::contains_id(list, p);
-    }
-    false
+    list_passes(
+        &s.cars[..saved_record::clamp_cars(s.count)],
+        car,
+        |list| phones::any_in(list, others),
+    )
 }
 
 // This car's list is full without the phone.
 pub fn is_full(s: Store, car: [u8; 32], p: ShortId) -> bool
     ensures { result ≡ is_full (cars_of s) car (id_bytes p) }
 {
-    let at = place_of(s, car);
-    if car_count(s) <= at {
-        return false;
-    }
-    let cars = s.cars;
-    if at == 0 {
-        let one = cars[0];
-        let list = one.phones;
-        return full_without(list, p);
-    }
-    if at == 1 {
-        let one = cars[1];
-        let list = one.phones;
-        return full_without(list, p);
-    }
-    if at == 2 {
-        let one = cars[2];
-        let list = one.phones;
-        return full_without(list, p);
-    }
-    let one = cars[3];
-    let list = one.phones;
-    full_without(list, p)
+    list_passes(
+        &s.cars[..saved_record::clamp_cars(s.count)],
+        car,
+        |list| full_without(list, p),
+    )
+}
+
+// A list is full without the phone.
+fn full_without(list: PhoneList, p: ShortId) -> bool
+    ensures { result ≡ (ltb 31 (length (phones_of list)) && not (contains (id_bytes p) (phones_of list))) }
+{
+    31 < phones::count(list) && !phones::contains_id(list, p)
 }
 
 // A car with its list in canonical form.
+#[tactic(auto, unfolding(saved_record::specs::Store::car_of, saved_record::specs::Store::laid_car))]
 fn canonical_car(c: CarPhones) -> CarPhones
     ensures { result ≡ laid_car (car_of c) }
 {
-    let car = c.car;
-    let list = c.phones;
-    let phones = phones::canonical(list);
-    CarPhones { car, phones }
+    CarPhones {
+        phones: phones::canonical(c.phones),
+        ..c
+    }
 }
 
 // The cars from a place on, in canonical form.
 pub fn laid_from(s: Store, from: usize) -> Store
     ensures { result ≡ store_of (drop from (cars_of s)) }
 {
-    let n = saved_record::clamp_cars(s.count);
-    let cars = s.cars;
-    let none = saved_record::empty_car();
-    let mut left = [none; 4];
-    let mut k = 0;
-    let mut i = from;
-    while i < n {
-        let old = cars[i];
-        let car = canonical_car(old);
-        left[k] = car;
-        k += 1;
-        i += 1;
+    let n = car_count(s);
+    let cars = &s.cars[from.min(n)..n];
+    let mut left = saved_record::empty_store();
+    for (k, car) in cars.iter().enumerate() {
+        left.cars[k] = canonical_car(*car);
     }
-    Store {
-        cars: left,
-        count: k,
-    }
+    left.count = cars.len();
+    left
 }
 
 // The whole store, in canonical form.

@@ -1,54 +1,13 @@
--- Where the car has a place, the list there is asked; past the cars there is none.
-use mathlib.Core.Path.{◌≡◌}
-use borrow.Author.Rules.{rules}
-use lib.ListN.{length}
-use Rattle.arrays.proofs.Laws.{long_map}
+-- By the list that was tested; where there is no car, its phones are none.
+use Rattle.std.proofs.Common.{inl, inr, rules}
 use Rattle.validations.specs.Store.{is_full}
-use Rattle.validations.proofs.Laws.{phones_at, phones_last, no_phones}
+use Rattle.arrays.proofs.Laws.{long_map}
+use Rattle.saved_record.proofs.Laws.{used_clamped}
 use Rattle.validations.proofs.is_full.Goals as goal
-
-pub returns-then-car_count-at : goal.returns-then-car_count-at
-unfolding is_full
-returns-then-car_count-at c =
-    let far : length c.args.s.cars ≡ 4 = search (rules, long_map) in
-    rw (no_phones _ far _ _ _ c.place_of-at.ensures c.car_count.ensures c.if-car_count-at.true)
-
-pub bounds-cars-0 : goal.bounds-cars-0
-unfolding is_full
-bounds-cars-0 c = search rules
-
-pub returns-then-at-eq0 : goal.returns-then-at-eq0
-unfolding is_full
-returns-then-at-eq0 c =
-    let far : length c.args.s.cars ≡ 4 = search (rules, long_map) in
-    rw (← phones_at _ far _ _ _ c.place_of-at.ensures c.car_count.ensures 0 c.if-at-eq0.true c.if-car_count-at.false, ← c.full_without.ensures)
-
-pub bounds-cars-1 : goal.bounds-cars-1
-unfolding is_full
-bounds-cars-1 c = search rules
-
-pub returns-then-at-eq1 : goal.returns-then-at-eq1
-unfolding is_full
-returns-then-at-eq1 c =
-    let far : length c.args.s.cars ≡ 4 = search (rules, long_map) in
-    rw (← phones_at _ far _ _ _ c.place_of-at.ensures c.car_count.ensures 1 c.if-at-eq1.true c.if-car_count-at.false, ← c.full_without-then-at-eq1.ensures)
-
-pub bounds-cars-2 : goal.bounds-cars-2
-unfolding is_full
-bounds-cars-2 c = search rules
-
-pub returns-then-at-eq2 : goal.returns-then-at-eq2
-unfolding is_full
-returns-then-at-eq2 c =
-    let far : length c.args.s.cars ≡ 4 = search (rules, long_map) in
-    rw (← phones_at _ far _ _ _ c.place_of-at.ensures c.car_count.ensures 2 c.if-at-eq2.true c.if-car_count-at.false, ← c.full_without-then-at-eq2.ensures)
-
-pub bounds-cars-3 : goal.bounds-cars-3
-unfolding is_full
-bounds-cars-3 c = search rules
 
 pub returns : goal.returns
 unfolding is_full
 returns c =
-    let far : length c.args.s.cars ≡ 4 = search (rules, long_map) in
-    rw (← phones_last _ far _ _ _ c.place_of-at.ensures c.car_count.ensures c.if-at-eq0.false c.if-at-eq1.false c.if-at-eq2.false c.if-car_count-at.false, ← c.full_without-2.ensures)
+    let s = c.args.s in
+    let e = used_clamped s c.clamp_cars.result (search (rules, long_map)) c.clamp_cars.ensures in
+    elim c.list_passes.ensures [ inl w ↦ rw (← e, ← w.1) (search rules) | inr w ↦ rw (← e, w.1, w.0) ]
