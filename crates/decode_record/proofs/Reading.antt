@@ -1,7 +1,7 @@
 -- The record read: a car's part, and what stands before the cars.
 use mathlib.Core.Path.{◌≡◌, refl, ap, sym, ◌∙◌}
 use mathlib.Core.Bool.{Bool, true, false, cond}
-use Rattle.std.specs.Prelude.{Option, Some, None, Result, Err}
+use Rattle.std.specs.Prelude.{Option, Some, None, Result, Ok, Err}
 use mathlib.Core.List.{List, [], ◌∷◌, append-nil}
 use Prim.Native.Nat.{ℕ, zero, suc, ◌+◌, ◌-◌, ◌≤◌, ◌<◌}
 use native.Mathlib.Omega.{arith}
@@ -12,11 +12,10 @@ use lib.Seq.{drop-cons, take_all, length-take-le}
 use Rattle.arrays.specs.Arrays.{put}
 use Rattle.arrays.proofs.Laws.{cond_same}
 use Rattle.phones.specs.Phones.{list_of}
-use Rattle.phone_fields.specs.declared.FieldsVerdict.{FieldsVerdict}
-use Rattle.phone_fields.specs.declared.FieldsVerdict.TheVariants as Fields
-use Rattle.phone_fields.specs.declared.FieldsVerdict.TheVariants.{Whole}
 use Rattle.phone_fields.specs.declared.FieldsRead.{FieldsRead}
-use Rattle.phone_fields.specs.PhoneFields.{fields, Read, not_whole, whole, PhonesRead, read_fields, over_limits, no_list, fields_read}
+use Rattle.phone_fields.specs.declared.FieldsError.{FieldsError}
+use Rattle.phone_fields.specs.declared.FieldsError.TheVariants as Fields
+use Rattle.phone_fields.specs.PhoneFields.{fields, Read, not_whole, whole, PhonesRead, read_fields, over_limits, fields_read}
 use Rattle.phone_fields.proofs.Laws.{ReadFields, refused, are, fields_read_lem}
 use Rattle.decode_record.specs.declared.CarRead.{CarRead}
 use Rattle.saved_record.specs.declared.Store.{Store}
@@ -66,61 +65,60 @@ part_none s h = go (ltb (length s) 33) refl
     go false e = let l = ltb-false (length s) 33 e in rw (part_counted s l, counted_none (take 32 s) (get_or s 32 0) (drop 33 s) (h l))
 
 -- what is answered by what is said of the phones, which stand after 33 bytes of s
-abbrev pub answered : List ℕ → FieldsVerdict → FieldsRead → Option CarRead
-answered s Whole read = Some (part_of s read false)
-answered s Fields.Malformed read = None
-answered s Fields.TooLarge read = Some (part_of s read true)
+abbrev pub answered : List ℕ → Result FieldsRead FieldsError → Option CarRead
+answered s (Ok read) = Some (part_of s read.phones read.used false)
+answered s (Err Fields.Malformed) = None
+answered s (Err (Fields.TooLarge used)) = Some (part_of s (list_of []) used true)
 
-used_within : (n : ℕ) (o : PhonesRead) → (fields_read n o).used ≤ n
-unfolding fields_read no_list
+-- how many bytes are used
+abbrev pub used_of : Result FieldsRead FieldsError → ℕ
+used_of (Ok read) = read.used
+used_of (Err Fields.Malformed) = 0
+used_of (Err (Fields.TooLarge used)) = used
+
+used_within : (n : ℕ) (o : PhonesRead) → used_of (fields_read n o) ≤ n
+unfolding fields_read
 used_within n not_whole = omega arith
 used_within n (whole ps rest) = go (over_limits ps)
   where
-    go : (b : Bool) → (cond b (no_list Fields.TooLarge (n - length rest)) (record { verdict = Whole; phones = list_of ps; used = n - length rest })).used ≤ n
+    go : (b : Bool) → used_of (cond b (Err (Fields.TooLarge (n - length rest))) (Ok (record { phones = list_of ps; used = n - length rest }))) ≤ n
     go true = omega arith
     go false = omega arith
 
 answered_whole : (s : List ℕ) (ps : List (List ℕ)) (rest : List ℕ) (n : ℕ) → n + 33 ≡ length s → length rest ≤ n
-    → answered s (fields_read n (whole ps rest)).verdict (fields_read n (whole ps rest)) ≡ car_read (length s) (of_car (take 32 s) (whole ps rest))
-unfolding fields_read no_list car_read of_car kept_car
+    → answered s (fields_read n (whole ps rest)) ≡ car_read (length s) (of_car (take 32 s) (whole ps rest))
+unfolding fields_read car_read of_car kept_car
 answered_whole s ps rest n long within = go (over_limits ps)
   where
-    read : Bool → FieldsRead
-    read b = cond b (no_list Fields.TooLarge (n - length rest)) (record { verdict = Whole; phones = list_of ps; used = n - length rest })
-
     all : 33 + (n - length rest) ≡ length s - length rest
     all = omega arith
 
-    go : (b : Bool) → answered s (read b).verdict (read b) ≡ Some (record { over = b; car = record { car = take 32 s; phones = list_of (cond b [] ps) }; used = length s - length rest })
+    go : (b : Bool) → answered s (cond b (Err (Fields.TooLarge (n - length rest))) (Ok (record { phones = list_of ps; used = n - length rest })))
+        ≡ Some (record { over = b; car = record { car = take 32 s; phones = list_of (cond b [] ps) }; used = length s - length rest })
     go true = rw all
     go false = rw all
 
-module _ (s : List ℕ) (n : ℕ) (long : 33 ≤ length s) (r : FieldsRead) (e : r ≡ fields_read (length (take (length s - 33) (drop 33 s))) (read_fields n (take (length s - 33) (drop 33 s)))) where
+module _ (s : List ℕ) (n : ℕ) (long : 33 ≤ length s) (r : Result FieldsRead FieldsError) (e : r ≡ fields_read (length (take (length s - 33) (drop 33 s))) (read_fields n (take (length s - 33) (drop 33 s)))) where
   -- the phones stand after 33 bytes, and end within s
-  pub part_within : 33 + r.used ≤ length s
+  pub part_within : 33 + used_of r ≤ length s
   part_within =
       let l : length (take (length s - 33) (drop 33 s)) ≡ length s - 33 = rw (tail_part s 33) (length-drop 33 s) in
-      let u : r.used ≤ length (take (length s - 33) (drop 33 s)) = rw e (used_within _ _) in
+      let u : used_of r ≤ length (take (length s - 33) (drop 33 s)) = rw e (used_within _ _) in
       omega arith
 
-  answered_all : get_or s 32 0 ≡ n → (n ≡ 0 → ⊥) → answered s r.verdict r ≡ car_read (length s) (read_car s)
-  unfolding fields_read no_list car_read of_car
+  pub answered_all : get_or s 32 0 ≡ n → (n ≡ 0 → ⊥) → answered s r ≡ car_read (length s) (read_car s)
+  unfolding fields_read car_read of_car
   answered_all en some-phones =
       rw (e, tail_part s 33, part_counted s long, en, counted (take 32 s) n (drop 33 s) some-phones) (go (fields_read_lem n (drop 33 s)))
     where
       m : length (drop 33 s) + 33 ≡ length s
       m = rw length-drop (omega arith)
 
-      go : ReadFields n (drop 33 s)
-          → answered s (fields_read (length (drop 33 s)) (read_fields n (drop 33 s))).verdict (fields_read (length (drop 33 s)) (read_fields n (drop 33 s))) ≡ car_read (length s) (of_car (take 32 s) (read_fields n (drop 33 s)))
+      go : ReadFields n (drop 33 s) → answered s (fields_read (length (drop 33 s)) (read_fields n (drop 33 s))) ≡ car_read (length s) (of_car (take 32 s) (read_fields n (drop 33 s)))
       go (refused q) = rw q
       go (are ps rest q w many f) =
           let l : length (fields ps) + length rest ≡ length (drop 33 s) = sym (length-append (fields ps) rest) ∙ ap length w in
           rw q (answered_whole s ps rest (length (drop 33 s)) m (omega arith))
-
-  -- by the verdict
-  pub answered_by : get_or s 32 0 ≡ n → (n ≡ 0 → ⊥) → (v : FieldsVerdict) → r.verdict ≡ v → answered s v r ≡ car_read (length s) (read_car s)
-  answered_by en some-phones v t = sym (ap (λ (w : FieldsVerdict). answered s w r) t) ∙ answered_all en some-phones
 
 -- ---- what stands before the cars
 

@@ -1,7 +1,7 @@
 -- What functions of the code give.
 use Rattle.std.specs.Prelude.{Bool, cond, Option, Some, None, List, [], ℕ, ◌+◌, ◌-◌, length, take}
 use Rattle.phones.specs.Phones.{list_of}
-use Rattle.phone_fields.specs.declared.FieldsRead.{FieldsRead}
+use Rattle.phones.specs.declared.PhoneList.{PhoneList}
 use Rattle.phone_fields.specs.PhoneFields.{Read, not_whole, whole, over_limits}
 use Rattle.saved_record.specs.declared.CarPhones.{CarPhones}
 use Rattle.saved_record.specs.SavedRecord.{CarIds}
@@ -17,5 +17,5 @@ car_read n not_whole = None
 car_read n (whole c rest) = Some (record { over = over_limits c.phones; car = kept_car c; used = n - length rest })
 
 -- the part of a car whose phones are read: 32 digest bytes and a count stand before them
-abbrev pub part_of : List ℕ → FieldsRead → Bool → CarRead
-part_of s read over = record { over = over; car = record { car = take 32 s; phones = read.phones }; used = 33 + read.used }
+abbrev pub part_of : List ℕ → PhoneList → ℕ → Bool → CarRead
+part_of s phones used over = record { over = over; car = record { car = take 32 s; phones = phones }; used = 33 + used }

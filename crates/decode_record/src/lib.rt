@@ -6,7 +6,8 @@ ghost use Rattle.saved_record.specs.SavedRecord.{read_car, read_cars, read_two, 
 ghost use Rattle.saved_record.specs.Store.{restored};
 ghost use Rattle.decode_record.specs.Steps.{car_read, part_of};
 
-use phone_fields::{FieldsRead, FieldsVerdict};
+use phone_fields::FieldsError;
+use phones::PhoneList;
 use saved_record::{CarPhones, RecordError, Store};
 
 // The car that some bytes begin with, and how many bytes its part takes. A car over the limits has its digest, and no phones.
@@ -19,9 +20,9 @@ struct CarRead {
 
 // The part of a car whose phones are read.
 #[tactic(auto, using(crate::proofs::Reading::car_copied, crate::proofs::Reading::digest_length))]
-fn whole_part(rest: &[u8], read: FieldsRead, over: bool) -> CarRead
-    requires { 33 + read.used ≤ length rest.now }
-    ensures { result ≡ part_of rest.now read over }
+fn whole_part(rest: &[u8], phones: PhoneList, used: usize, over: bool) -> CarRead
+    requires { 33 + used ≤ length rest.now }
+    ensures { result ≡ part_of rest.now phones used over }
 {
     let mut digest = [0u8; 32];
     arrays::put(&mut digest, 0, &rest[..32]);
@@ -29,9 +30,9 @@ fn whole_part(rest: &[u8], read: FieldsRead, over: bool) -> CarRead
         over,
         car: CarPhones {
             car: digest,
-            phones: read.phones,
+            phones,
         },
-        used: 33 + read.used,
+        used: 33 + used,
     }
 }
 
@@ -43,11 +44,12 @@ fn read_car(rest: &[u8]) -> Option<CarRead>
     if rest.len() < 33 || rest[32] == 0 {
         return None;
     }
-    let read = phone_fields::read_fields(usize::from(rest[32]), &rest[33..]);
-    match read.verdict {
-        FieldsVerdict::Whole => Some(whole_part(rest, read, false)),
-        FieldsVerdict::Malformed => None,
-        FieldsVerdict::TooLarge => Some(whole_part(rest, read, true)),
+    match phone_fields::read_fields(usize::from(rest[32]), &rest[33..]) {
+        Ok(read) => Some(whole_part(rest, read.phones, read.used, false)),
+        Err(FieldsError::Malformed) => None,
+        Err(FieldsError::TooLarge(used)) => {
+            Some(whole_part(rest, phones::empty_list(), used, true))
+        }
     }
 }
 
