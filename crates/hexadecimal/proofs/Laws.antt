@@ -1,5 +1,6 @@
 -- Laws of the definitions of specs/.
-use Rattle.std.proofs.Common.{◌≡◌, refl, Bool, true, false, cond, List, [], ◌∷◌, ℕ, zero, suc, ◌+◌, ◌*◌, ◌-◌, ◌/◌, ◌%◌, ◌≤◌, ◌<◌, mod-eq_of_lt, arith, lt-ltb, le-ltb, ltb-true, ltb-false, ltb, length, get_or, set, Some}
+use Rattle.std.proofs.Common.{◌≡◌, refl, List, [], ◌∷◌, ℕ, zero, suc, ◌+◌, ◌*◌, ◌/◌, ◌%◌, ◌≤◌, ◌<◌, mod-eq_of_lt, arith, length, get_or, set, Some}
+use Rattle.std.proofs.lemmas.Bool.Decides.{nat_tests}
 use Rattle.std.proofs.Math.Seq.{paste, paste-suc}
 use Rattle.hexadecimal.specs.Hex.{digit, hex_of, value_of}
 
@@ -36,18 +37,7 @@ hex_turn d at s i fits h byte =
     let two = paste-suc d at (hex_of s) (suc (2 * i)) 0 (omega arith) (omega arith) in
     rw (m, e, f, ← hex_high s i h, ← hex_low s i h, one, two)
 
-value_by : (n : ℕ) (t : Bool) → ltb n 10 ≡ t → n < 16 → value_of (cond t (48 + n) (87 + n)) ≡ Some n
-unfolding value_of
-value_by n true l h =
-    let k = ltb-true n 10 l in
-    let e : 48 + n - 48 ≡ n = omega arith in
-    rw (le-ltb (48 + n) 48 (omega arith), lt-ltb (48 + n) 58 (omega arith), e)
-value_by n false l h =
-    let k = ltb-false n 10 l in
-    let e : 87 + n - 87 ≡ n = omega arith in
-    rw (le-ltb (87 + n) 48 (omega arith), le-ltb (87 + n) 58 (omega arith), le-ltb (87 + n) 65 (omega arith), le-ltb (87 + n) 71 (omega arith), le-ltb (87 + n) 97 (omega arith), lt-ltb (87 + n) 103 (omega arith), e)
-
 -- a digit that was written is read back
 pub value_digit : (n : ℕ) → n < 16 → value_of (digit n) ≡ Some n
-unfolding digit
-value_digit n h = value_by n (ltb n 10) refl h
+unfolding digit value_of
+value_digit n h = grind (arith, nat_tests)
