@@ -14,7 +14,7 @@ pub enum LogError {
     TooManyLines,
 }
 
-// The frames of a log and their times; zeros past the count.
+// The frames of a log and their times; zeros past the count. Memory is fixed, and the matcher takes times beside the frames.
 #[derive(Clone, Copy)]
 pub struct ReadLog {
     pub log: FrameLog,

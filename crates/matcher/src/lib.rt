@@ -9,6 +9,7 @@ ghost use Rattle.matcher.specs.Greedy.{free_in, first_fit, greedy, Sized};
 
 use frames::CanFrame;
 
+// Memory is fixed: an array with its count, as a log is lent to match_logs.
 #[derive(Clone, Copy)]
 pub struct FrameLog {
     pub frames: [CanFrame; 512],
