@@ -1,14 +1,14 @@
 -- The methods in use, and the steps of the loop over the methods.
-use mathlib.Core.Path.{◌≡◌, refl, ap, sym, ◌∙◌}
+use mathlib.Core.Path.{◌≡◌, refl, ap, ◌∙◌}
 use mathlib.Core.Bool.{Bool, false}
 use mathlib.Core.List.{List, [], ◌∷◌, ◌++◌, map}
-use Prim.Native.Nat.{ℕ, suc, ◌+◌, ◌-◌, ◌≤◌, ◌<◌}
+use Prim.Native.Nat.{ℕ, suc, ◌+◌, ◌<◌, min}
 use native.Mathlib.Nat.{add-zero, zero-add}
 use native.Mathlib.Numerals.{add-one}
 use native.Mathlib.Omega.{arith}
-use lib.Dec.{ltb}
 use lib.ListN.{length, take, get_or, set, length-take, length-map}
-use lib.Seq.{take-suc, take_all}
+use lib.Seq.{take-suc}
+use Rattle.std.proofs.lemmas.List.{take_min}
 use Rattle.arrays.specs.Arrays.{padded}
 use Rattle.arrays.proofs.Laws.{padded_push}
 use Rattle.state.specs.declared.Method.{Method}
@@ -21,14 +21,6 @@ use Rattle.answers.specs.Answers.{can_start, can_start_from}
 -- cleaning leaves their number
 pub used_count : (n : ℕ) (ms : List Method) → length (take n (map clean_method ms)) ≡ length (take n ms)
 used_count n ms = rw (length-take, length-map, length-take)
-
--- ---- times
-
--- a clock before the end counts as at it
-pub kept_early : (ended clock keep : ℕ) → clock < ended → ltb 0 keep ≡ ltb (clock - ended) keep
-kept_early ended clock keep h =
-    let e : clock - ended ≡ 0 = omega arith in
-    rw e
 
 -- ---- the loop over the methods
 
@@ -57,6 +49,8 @@ module _ (c : Core) (i : ℕ) (out : List Bool) (list : List Method) (far : leng
       let push = padded_push 8 false (can_start c i (get_or list i past_methods)) (can_start_from c 0 (take i list)) (omega arith) in
       rw (more, e, inv) (rw n at push)
 
-  -- all of them, or as many as there are
-  pub start_end : (n : ℕ) → 8 ≤ i → i ≤ n → out ≡ padded 8 false (can_start_from c 0 (take n list))
-  start_end n h k = inv ∙ ap (λ (ms : List Method). padded 8 false (can_start_from c 0 ms)) (take_all i list (omega arith) ∙ sym (take_all n list (omega arith)))
+  -- all of those in use
+  pub start_end : (n : ℕ) → i ≡ min n 8 → out ≡ padded 8 false (can_start_from c 0 (take n list))
+  start_end n e =
+      let k : take i list ≡ take n list = rw (e, ← far) (take_min n list) in
+      inv ∙ ap (λ (ms : List Method). padded 8 false (can_start_from c 0 ms)) k

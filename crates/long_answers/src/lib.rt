@@ -1,11 +1,9 @@
 // What the longer answers of the queries hold, on a gate in range, and what they hold under 25.
 #![tactic(auto)]
 
-ghost use Rattle.std.specs.Prelude.{◌≡◌, false, [], ◌-◌, min, ltb, length, take};
+ghost use Rattle.std.specs.Prelude.{◌≡◌, false, [], length, take};
 ghost use Rattle.arrays.specs.Arrays.{padded};
-ghost use Rattle.phones.specs.Phones.{id_bytes, id_of};
 ghost use Rattle.state.specs.View.{lists_in};
-ghost use Rattle.phone_trust.specs.Trust.{is_validated, trust_of};
 ghost use Rattle.state.specs.declared.Answer.TheVariants.{BadSettings};
 ghost use Rattle.answers.specs.Answers.{access_state_of, no_access_state, no_peer, peer_of, is_shown, session_shown, no_access, phone_access_of, can_start, can_start_from, methods_of, methods_now, shown_digits, challenge_of, no_challenge_now, challenge_now};
 
@@ -13,27 +11,20 @@ use answers::{AccessAnswer, ChallengeAnswer, MethodsAnswer, PeerAnswer, PhoneAcc
 use phone_trust::Trust;
 use phones::ShortId;
 use policy::Approval;
-use state::{Answer, Challenge, Core, Identity, Method, Methods, Phones, Policy};
+use state::{Answer, Challenge, Core, Method, Methods, Phones, Policy};
 
 pub fn access_of(policy: Policy) -> AccessAnswer
     ensures { result ≡ access_state_of policy }
 {
-    let identity = policy.identity;
-    let access = policy.access;
-    let approval = policy::can_read_write_approval(identity, access);
-    let car = policy::is_car_fingerprint_confirmed(identity);
-    let devlock = policy::has_can_dev_write_lock(access);
-    let unlocked = policy::is_can_dev_write_unlocked(access);
-    let readonly = policy::is_can_read_only(policy);
     AccessAnswer {
         answer: Answer::Done,
-        platform: identity.confirmed,
-        car,
-        approval,
-        devlock,
-        unlocked,
+        platform: policy.identity.confirmed,
+        car: policy::is_car_fingerprint_confirmed(policy.identity),
+        approval: policy::can_read_write_approval(policy.identity, policy.access),
+        devlock: policy::has_can_dev_write_lock(policy.access),
+        unlocked: policy::is_can_dev_write_unlocked(policy.access),
         logging: policy.buses.logging,
-        readonly,
+        readonly: policy::is_can_read_only(policy),
     }
 }
 
@@ -52,31 +43,18 @@ pub fn no_access_state() -> AccessAnswer
     }
 }
 
+#[tactic(auto, unfolding(phones::specs::Phones::id_of, arrays::specs::Arrays::padded))]
 pub fn no_peer(answer: Answer) -> PeerAnswer
     ensures { result ≡ no_peer answer }
 {
-    let bytes = [0u8; 32];
-    let peer = ShortId { bytes, len: 0 };
     PeerAnswer {
         answer,
-        peer,
+        peer: ShortId {
+            bytes: [0; 32],
+            len: 0,
+        },
         validated: false,
     }
-}
-
-// A length or a count, at most `most`.
-fn at_most(n: usize, most: usize) -> usize
-    ensures { result ≡ min n most }
-{
-    if n < most { n } else { most }
-}
-
-fn is_validated(p: ShortId, identity: Identity, phones: Phones) -> bool
-    ensures { result ≡ is_validated identity (lists_in phones) (id_bytes p) }
-{
-    let bytes = p.bytes;
-    let n = at_most(p.len, 32);
-    phone_trust::is_phone_validated(identity, phones, &bytes[..n])
 }
 
 pub fn peer_of(core: Core, phones: Phones) -> PeerAnswer
@@ -86,52 +64,34 @@ pub fn peer_of(core: Core, phones: Phones) -> PeerAnswer
     if peer.len == 0 {
         return no_peer(Answer::Nothing);
     }
-    let id = phones::clean(peer);
-    let identity = core.policy.identity;
-    let valid = is_validated(peer, identity, phones);
     PeerAnswer {
         answer: Answer::Done,
-        peer: id,
-        validated: valid,
+        peer: phones::clean(peer),
+        validated: phone_trust::is_phone_validated(core.policy.identity, phones, peer.used()),
     }
-}
-
-// An end less than `keep` ago; a clock before the end counts as at it.
-fn is_kept(ended: u64, clock: u64, keep: u64) -> bool
-    ensures { result ≡ ltb (clock - ended) keep }
-{
-    if clock < ended {
-        return 0 < keep;
-    }
-    clock - ended < keep
 }
 
 // The session is this phone's, and it runs or ended less than the result-keep ago.
+#[tactic(auto, unfolding(answers::specs::Answers::is_shown))]
 fn is_shown(core: Core, phone: &[u8], clock: u64) -> bool
     ensures { result ≡ is_shown core phone.now clock }
 {
     let s = core.validation.session;
-    if s.present {
-        if session::is_of(s, phone) {
-            let status = s.status;
-            if state::running::is_running(status) {
-                return true;
-            }
-            return is_kept(s.ended, clock, core.settings.keep);
-        }
-    }
-    false
+    s.present
+        && session::is_of(s, phone)
+        && (state::running::is_running(s.status)
+            || clock.saturating_sub(s.ended) < core.settings.keep)
 }
 
+#[tactic(auto, unfolding(answers::specs::Answers::session_shown))]
 pub fn session_shown(core: Core, phone: &[u8], clock: u64) -> Answer
     ensures { result ≡ session_shown core phone.now clock }
 {
     if is_shown(core, phone, clock) {
-        let s = core.validation.session;
-        let reply = session::reply_of(core, s, clock);
-        return Answer::Session(reply);
+        Answer::Session(session::reply_of(core, core.validation.session, clock))
+    } else {
+        Answer::Nothing
     }
-    Answer::Nothing
 }
 
 pub fn no_access(answer: Answer) -> PhoneAccessAnswer
@@ -145,22 +105,6 @@ pub fn no_access(answer: Answer) -> PhoneAccessAnswer
     }
 }
 
-fn trust_in(p: ShortId, identity: Identity, phones: Phones) -> Trust
-    ensures { result ≡ trust_of identity (lists_in phones) (id_bytes p) }
-{
-    let bytes = p.bytes;
-    let n = at_most(p.len, 32);
-    phone_trust::phone_trust_level(identity, phones, &bytes[..n])
-}
-
-fn session_of(p: ShortId, core: Core, clock: u64) -> Answer
-    ensures { result ≡ session_shown core (id_bytes p) clock }
-{
-    let bytes = p.bytes;
-    let n = at_most(p.len, 32);
-    session_shown(core, &bytes[..n], clock)
-}
-
 pub fn phone_access_of(core: Core, phones: Phones, clock: u64) -> PhoneAccessAnswer
     ensures { result ≡ phone_access_of core (lists_in phones) clock }
 {
@@ -169,30 +113,22 @@ pub fn phone_access_of(core: Core, phones: Phones, clock: u64) -> PhoneAccessAns
         return no_access(Answer::Nothing);
     }
     let identity = core.policy.identity;
-    let trust = trust_in(peer, identity, phones);
-    let car_has_validated = phone_trust::car_has_validated_phone(identity, phones);
-    let session = session_of(peer, core, clock);
     PhoneAccessAnswer {
         answer: Answer::Done,
-        trust,
-        car_has_validated,
-        session,
+        trust: phone_trust::phone_trust_level(identity, phones, peer.used()),
+        car_has_validated: phone_trust::car_has_validated_phone(identity, phones),
+        session: session_shown(core, peer.used(), clock),
     }
 }
 
 // is_method_available.
+#[tactic(auto, unfolding(answers::specs::Answers::can_start))]
 fn can_start(core: Core, at: usize, m: Method) -> bool
     ensures { result ≡ can_start core at m }
 {
-    let identity = core.policy.identity;
-    if policy::is_car_fingerprint_confirmed(identity) {
-        if session::lost_read_write(core, m) {
-            return false;
-        }
-        let notes = core.methods.available;
-        return session::note_at(notes, at);
-    }
-    false
+    policy::is_car_fingerprint_confirmed(core.policy.identity)
+        && !session::lost_read_write(core, m)
+        && session::note_at(core.methods.available, at)
 }
 
 // Of each method in use, whether it can start now.
@@ -200,28 +136,20 @@ fn can_start_each(core: Core, list: [Method; 8], count: usize) -> [bool; 8]
     ensures { result ≡ padded 8 false (can_start_from core 0 (take count list)) }
 {
     let mut out = [false; 8];
-    let mut i = 0;
-    while i < 8 {
-        if count <= i {
-            return out;
-        }
-        let m = list[i];
-        out[i] = can_start(core, i, m);
-        i += 1;
+    for i in 0..count.min(8) {
+        out[i] = can_start(core, i, list[i]);
     }
     out
 }
 
+#[tactic(auto, unfolding(arrays::specs::Arrays::padded))]
 pub fn no_methods() -> MethodsAnswer
     ensures { result ≡ methods_of BadSettings [] [] }
 {
-    let none = state::running::no_method();
-    let list = [none; 8];
-    let available = [false; 8];
     MethodsAnswer {
         answer: Answer::BadSettings,
-        list,
-        available,
+        list: [state::running::no_method(); 8],
+        available: [false; 8],
         count: 0,
     }
 }
@@ -230,73 +158,57 @@ pub fn no_methods() -> MethodsAnswer
 fn count_used(m: Methods) -> usize
     ensures { result ≡ length (take m.count m.list) }
 {
-    at_most(m.count, 8)
+    m.count.min(8)
 }
 
 pub fn methods_of(core: Core) -> MethodsAnswer
     ensures { result ≡ methods_now core }
 {
-    let methods = core.methods;
-    let list = methods.list;
-    let n = methods.count;
-    let used = new_gate::used_methods(list, n);
-    let available = can_start_each(core, list, n);
-    let count = count_used(methods);
+    let Methods { list, count, .. } = core.methods;
     MethodsAnswer {
         answer: Answer::Done,
-        list: used,
-        available,
-        count,
+        list: new_gate::used_methods(list, count),
+        available: can_start_each(core, list, count),
+        count: count_used(core.methods),
     }
 }
 
 pub fn no_challenge(answer: Answer) -> ChallengeAnswer
     ensures { result ≡ no_challenge_now answer }
 {
-    let challenge = state::replies::no_challenge();
-    ChallengeAnswer { answer, challenge }
+    ChallengeAnswer {
+        answer,
+        challenge: state::replies::no_challenge(),
+    }
 }
 
 // The first n digits, zeros past them.
+#[tactic(auto, unfolding(answers::specs::Answers::shown_digits, arrays::specs::Arrays::padded))]
 fn first_digits(held: [u8; 9], n: usize) -> [u8; 9]
     ensures { result ≡ shown_digits held n }
 {
-    let mut code = [0u8; 9];
-    let mut i = 0;
-    while i < 9 {
-        if n <= i {
-            return code;
-        }
-        let d = held[i];
-        code[i] = d;
-        i += 1;
-    }
+    let shown = n.min(9);
+    let mut code = [0; 9];
+    code[..shown].copy_from_slice(&held[..shown]);
     code
 }
 
+#[tactic(auto, unfolding(answers::specs::Answers::challenge_of))]
 fn challenge_of(core: Core, held: [u8; 9]) -> Challenge
     ensures { result ≡ challenge_of core held }
 {
     let s = core.validation.session;
-    let methods = core.methods;
-    if state::running::code_in_progress(methods, s) {
-        let n = core.settings.digits;
-        let code = first_digits(held, n);
-        return Challenge {
-            running: true,
-            session: s.number,
-            method: s.method,
-            length: n,
-            code,
-        };
-    }
-    let code = first_digits(held, 0);
+    let length = if state::running::code_in_progress(core.methods, s) {
+        core.settings.digits
+    } else {
+        0
+    };
     Challenge {
         running: true,
         session: s.number,
         method: s.method,
-        length: 0,
-        code,
+        length,
+        code: first_digits(held, length),
     }
 }
 
@@ -304,13 +216,12 @@ fn challenge_of(core: Core, held: [u8; 9]) -> Challenge
 pub fn challenge_now(core: Core, held: [u8; 9]) -> ChallengeAnswer
     ensures { result ≡ challenge_now core held }
 {
-    let s = core.validation.session;
-    if state::running::in_progress(s) {
-        let challenge = challenge_of(core, held);
-        return ChallengeAnswer {
+    if state::running::in_progress(core.validation.session) {
+        ChallengeAnswer {
             answer: Answer::Done,
-            challenge,
-        };
+            challenge: challenge_of(core, held),
+        }
+    } else {
+        no_challenge(Answer::Nothing)
     }
-    no_challenge(Answer::Nothing)
 }
