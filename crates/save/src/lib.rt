@@ -21,9 +21,8 @@ pub struct Kept {
 pub fn no_save() -> Save
     ensures { result ≡ no_save }
 {
-    let stored = saved_record::no_record();
     Save {
-        stored,
+        stored: saved_record::no_record(),
         at: 0,
         present: false,
     }
@@ -32,38 +31,21 @@ pub fn no_save() -> Save
 pub fn open_phone_validations_save(s: Store) -> Kept
     ensures { Says result (opening (cars_of s)) }
 {
-    let stored = validations::record_for(s);
-    let save = Save {
-        stored,
-        at: 0,
-        present: true,
-    };
     Kept {
         answer: Answer::Done,
-        save,
+        save: Save {
+            stored: validations::record_for(s),
+            at: 0,
+            present: true,
+        },
     }
-}
-
-// The difference, or 0.
-fn less(a: usize, b: usize) -> usize
-    ensures { result ≡ a - b }
-{
-    if b < a {
-        return a - b;
-    }
-    0
 }
 
 // How many bytes are left: told by what remains and never by a sum, which might overflow.
 fn left_of(s: Save) -> usize
     ensures { result ≡ length (rest s) }
 {
-    let len = s.stored.len;
-    let at = s.at;
-    if len < 4358 {
-        return less(len, at);
-    }
-    less(4358, at)
+    s.stored.len.min(4358).saturating_sub(s.at)
 }
 
 // Puts the next bytes, so many, at the front of the lent memory.
@@ -72,9 +54,7 @@ fn hand_out(s: Save, n: usize, out: &mut [u8])
     ensures { out.new ≡ put out.old 0 (take n (rest s)) }
 {
     if 0 < n {
-        let bytes = s.stored.bytes;
-        let at = s.at;
-        arrays::put(out, 0, &bytes[at..at + n]);
+        arrays::put(out, 0, &s.stored.bytes[s.at..s.at + n]);
     }
 }
 

@@ -6,8 +6,8 @@ use Rattle.arrays.specs.Arrays.{put}
 use Rattle.save.proofs.Laws.{rest_length, rest_part, put_none}
 use Rattle.save.proofs.hand_out.Goals as goal
 
-pub overflow_add-at : goal.overflow_add-at
-overflow_add-at c =
+pub overflow_add-s : goal.overflow_add-s
+overflow_add-s c =
     let s = c.args.s in
     let far : length s.stored.bytes ≡ 4358 = search rules in
     let l = rest_length s far in

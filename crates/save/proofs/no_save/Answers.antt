@@ -3,4 +3,4 @@ use Rattle.save.proofs.no_save.Goals as goal
 
 pub returns : goal.returns
 unfolding no_save
-returns c = rw c.no_record-stored.ensures
+returns c = rw c.no_record.ensures
