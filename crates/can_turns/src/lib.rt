@@ -1,7 +1,7 @@
 // Frames that wait, sixteen records by value: a turn, and a run of turns, on a gate in range (02, W-204).
 #![tactic(auto)]
 
-ghost use Rattle.std.specs.Prelude.{◌≡◌, [], min, ◌-◌, ◌<◌};
+ghost use Rattle.std.specs.Prelude.{◌≡◌, [], ◌<◌};
 ghost use Rattle.state.specs.View.{lists_in};
 ghost use Rattle.can_turns.specs.Turns.{owner_validated, no_turn, report_of, serving};
 ghost use Rattle.can_turns.specs.Steps.{Reports, Turns, run_of};
@@ -23,13 +23,8 @@ pub struct Run {
 fn owner_validated(identity: Identity, phones: Phones, w: Waiting) -> bool
     ensures { result ≡ owner_validated identity (lists_in phones) w }
 {
-    let owner = w.owner;
-    if phones::id_in_range(owner) {
-        let bytes = owner.bytes;
-        let n = owner.len;
-        return phone_trust::is_phone_validated(identity, phones, &bytes[..n]);
-    }
-    false
+    phones::id_in_range(w.owner)
+        && phone_trust::is_phone_validated(identity, phones, w.owner.used())
 }
 
 // One decision more.
@@ -47,15 +42,6 @@ fn with_decision(report: Report, frame: CanFrame, allowed: bool) -> Report
         };
     }
     report
-}
-
-fn less_one(count: usize) -> usize
-    ensures { result ≡ count - 1 }
-{
-    if 0 < count {
-        return count - 1;
-    }
-    0
 }
 
 // One turn: the oldest frame of the next bus that has one, decided by allow at this clock; the later ones move up.
@@ -78,7 +64,7 @@ fn turn(phones: Phones, clock: u64, s: Run) -> Run
     let left = waiting_list::closed_up(all, place, q.count);
     let next = can_tx::core_by(core, v);
     let queue = Queue {
-        count: less_one(q.count),
+        count: q.count.saturating_sub(1),
         last: frame.bus,
     };
     Run {
@@ -121,16 +107,6 @@ pub fn no_turn(core: Core, q: Queue, all: [Waiting; 16]) -> Run
     }
 }
 
-fn turns_taken(turns: u32, count: usize) -> usize
-    ensures { result ≡ min turns count }
-{
-    let n = turns as usize;
-    if n < count {
-        return n;
-    }
-    count
-}
-
 pub fn serve_can_frames(
     core: Core,
     phones: Phones,
@@ -142,13 +118,10 @@ pub fn serve_can_frames(
     requires { q.count < 17 }
     ensures { result ≡ run_of (serving core (lists_in phones) q all turns clock) }
 {
-    let n = turns_taken(turns, q.count);
+    let n = (turns as usize).min(q.count);
     let mut s = no_turn(core, q, all);
-    let mut i: usize = 0;
-    while i < n {
-        let more = turn(phones, clock, s);
-        s = more;
-        i += 1;
+    for _ in 0..n {
+        s = turn(phones, clock, s);
     }
     s
 }
