@@ -35,11 +35,7 @@ pub fn store(list: &mut [Waiting], all: [Waiting; 16])
     requires { length list.old ≡ 16 }
     ensures { list.new ≡ all }
 {
-    let mut i: usize = 0;
-    while i < 16 {
-        list[i] = all[i];
-        i += 1;
-    }
+    list.copy_from_slice(&all);
 }
 
 // The record as every turn takes it: its frame's bus modulo 4.
@@ -64,7 +60,7 @@ fn is_on(w: Waiting, bus: u8) -> bool
 fn clip(count: usize) -> usize
     ensures { result ≡ min count 16 }
 {
-    if count < 16 { count } else { 16 }
+    count.min(16)
 }
 
 // The place of the oldest frame on a bus; how many wait if none is on it.
@@ -108,18 +104,14 @@ pub fn next_place(all: [Waiting; 16], count: usize, last: u8) -> usize
 pub fn record_at(all: [Waiting; 16], place: usize) -> Waiting
     ensures { result ≡ record_at all (min place 15) }
 {
-    if place < 15 {
-        return all[place];
-    }
-    all[15]
+    all[place.min(15)]
 }
 
 // The last place of those that wait, or 0.
 fn last_of(count: usize) -> usize
     ensures { result ≡ min count 16 - 1 }
 {
-    let n = clip(count);
-    if 0 < n { n - 1 } else { 0 }
+    count.min(16).saturating_sub(1)
 }
 
 // The list once the frame at a place is taken: the later frames that wait move one place forward.
@@ -143,7 +135,6 @@ pub fn put_record(all: [Waiting; 16], count: usize, w: Waiting) -> [Waiting; 16]
     let mut l = all;
     if count < 16 {
         l[count] = w;
-        return l;
     }
     l
 }

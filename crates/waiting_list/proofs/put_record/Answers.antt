@@ -8,6 +8,6 @@ pub returns-then-count-lt16 : goal.returns-then-count-lt16
 unfolding with_one
 returns-then-count-lt16 c = refl
 
-pub returns : goal.returns
+pub returns-else-count-lt16 : goal.returns-else-count-lt16
 unfolding with_one
-returns c = sym (set_out _ _ _ (omega (arith, c.well_formed.0.1.0.1)))
+returns-else-count-lt16 c = sym (set_out _ _ _ (omega (arith, c.well_formed.0.1.0.1)))
