@@ -65,7 +65,7 @@ pub fn same_id(a: Id, b: Id) -> bool
     a == b
 }
 
-// Whether all eight data bytes are equal.
+// Whether all eight data bytes are equal. Its contract has the definition that laws of an entry are over.
 #[tactic(auto, using(arrays::proofs::Laws::same_is_pointwise))]
 pub fn same_data(x: [u8; 8], y: [u8; 8]) -> bool
     ensures { result ≡ same_bytes x y }
@@ -78,7 +78,7 @@ pub fn same_data(x: [u8; 8], y: [u8; 8]) -> bool
 pub fn is_entry(entry: ProbeFrame, frame: CanFrame) -> bool
     ensures { result ≡ is_entry entry frame }
 {
-    entry.id == frame.id && entry.data == frame.data
+    same_id(entry.id, frame.id) && same_data(entry.data, frame.data)
 }
 
 // Whether a board has this bus.
@@ -88,7 +88,7 @@ pub fn bus_exists(bus: u8) -> bool
     bus < MAX_CAN_BUSES
 }
 
-// Whether the frame belongs to a phone's command.
+// Whether the frame belongs to a phone's command: a name for one pattern, as can_tx and can_queue ask it.
 pub fn is_command(class: TxClass) -> bool
     ensures { result ≡ is_command class }
 {
