@@ -1,5 +1,5 @@
 -- The calls on the platform and the car's fingerprint (can.rs, can_access.rs).
-use Rattle.std.specs.Prelude.{Bool, true, false, not, List, [], ◌∷◌, ℕ, ltb, eqb, length}
+use Rattle.std.specs.Prelude.{Bool, true, false, not, List, [], ◌∷◌, ℕ, unwrap_or, ltb, eqb, length, replicate}
 use Rattle.car_digest.specs.CarDigest.{car_digest}
 use Rattle.state.specs.declared.Core.{Core}
 use Rattle.state.specs.declared.Answer.TheVariants.{Done, Yes, No, TooLarge}
@@ -33,7 +33,7 @@ confirm_fingerprint c fingerprint =
     ((ltb 4096 (length fingerprint) refuses TooLarge) ∷  -- 23
     (empty fingerprint refuses No) ∷  -- no if empty
     (not c.policy.identity.confirmed refuses No) ∷ [])  -- no if the platform is unconfirmed
-    (policy_changed c Yes (with_identity c.policy (identity_of c.policy.identity c.policy.identity.confirmed (record { known = true; digest = (car_digest c.policy.identity.platform fingerprint).digest }))))
+    (policy_changed c Yes (with_identity c.policy (identity_of c.policy.identity c.policy.identity.confirmed (record { known = true; digest = unwrap_or (car_digest c.policy.identity.platform fingerprint) (replicate 32 0) }))))
 
 -- ---- a host note: one item, no signal
 

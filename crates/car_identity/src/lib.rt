@@ -4,33 +4,37 @@
 ghost use Rattle.std.specs.Prelude.{◌≡◌};
 ghost use Rattle.car_identity.specs.CarIdentity.{confirm_fingerprint, confirm_platform, note_platform, revoke_platform};
 
-use state::{Answer, Car, Core, Said};
+use state::{Answer, Buses, Car, Core, Identity, Policy, Said};
 
+#[tactic(auto, unfolding(crate::specs::CarIdentity::confirm_platform))]
 pub fn confirm_car_identity(core: Core) -> Said
     ensures { result ≡ confirm_platform core }
 {
-    let policy = core.policy;
-    let mut identity = policy.identity;
-    identity.confirmed = true;
-    let p = policy_changes::with_identity(policy, identity);
+    let identity = Identity {
+        confirmed: true,
+        ..core.policy.identity
+    };
+    let p = policy_changes::with_identity(core.policy, identity);
     policy_changes::policy_changed(core, Answer::Done, p)
 }
 
+#[tactic(auto, unfolding(crate::specs::CarIdentity::revoke_platform))]
 pub fn revoke_car_identity(core: Core) -> Said
     ensures { result ≡ revoke_platform core }
 {
-    let probe = core.probe;
-    let counted = policy_changes::relocked(probe);
-    let c = state::parts::with_probe(core, counted);
-    let policy = core.policy;
-    let none = state::replies::no_car();
-    let mut identity = policy.identity;
-    identity.confirmed = false;
-    identity.car = none;
-    let forgotten = policy_changes::with_identity(policy, identity);
-    let mut buses = policy.buses;
-    buses.vehicle_read_only = true;
-    let p = policy_changes::with_buses(forgotten, buses);
+    let c = state::parts::with_probe(core, policy_changes::relocked(core.probe));
+    let p = Policy {
+        identity: Identity {
+            confirmed: false,
+            car: state::replies::no_car(),
+            ..core.policy.identity
+        },
+        buses: Buses {
+            vehicle_read_only: true,
+            ..core.policy.buses
+        },
+        ..core.policy
+    };
     policy_changes::policy_changed(c, Answer::Done, p)
 }
 
@@ -41,32 +45,28 @@ pub fn confirm_car_fingerprint(core: Core, fingerprint: &[u8]) -> Said
     if 4096 < fingerprint.len() {
         return state::replies::leave(core, Answer::TooLarge);
     }
-    if fingerprint.len() == 0 {
+    let identity = core.policy.identity;
+    if fingerprint.is_empty() || !identity.confirmed {
         return state::replies::leave(core, Answer::No);
     }
-    let policy = core.policy;
-    let mut identity = policy.identity;
-    if identity.confirmed {
-        let made = car_digest::car_digest(identity.platform, fingerprint);
-        let digest = made.digest;
-        let car = Car {
-            known: true,
-            digest,
-        };
-        identity.car = car;
-        let p = policy_changes::with_identity(policy, identity);
-        return policy_changes::policy_changed(core, Answer::Yes, p);
-    }
-    state::replies::leave(core, Answer::No)
+    // One of this length has a digest.
+    let digest = car_digest::car_digest(identity.platform, fingerprint).unwrap_or([0; 32]);
+    let car = Car {
+        known: true,
+        digest,
+    };
+    let p = policy_changes::with_identity(core.policy, Identity { car, ..identity });
+    policy_changes::policy_changed(core, Answer::Yes, p)
 }
 
+#[tactic(auto, unfolding(crate::specs::CarIdentity::note_platform))]
 pub fn note_platform_id(core: Core, number: u32) -> Said
     ensures { result ≡ note_platform core number }
 {
-    let policy = core.policy;
-    let mut identity = policy.identity;
-    identity.platform = number;
-    let p = policy_changes::with_identity(policy, identity);
-    let c = state::parts::with_policy(core, p);
-    state::replies::quiet(c, Answer::Done)
+    let identity = Identity {
+        platform: number,
+        ..core.policy.identity
+    };
+    let p = policy_changes::with_identity(core.policy, identity);
+    state::replies::quiet(state::parts::with_policy(core, p), Answer::Done)
 }

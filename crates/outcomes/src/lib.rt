@@ -29,50 +29,52 @@ pub fn out_of_range(core: Core) -> Said
 }
 
 // What an operation on the core says of a gate in range; otherwise 25.
+#[tactic(auto, unfolding(crate::specs::Served::said_on, state::specs::View::view))]
 pub fn said_on(g: Gate, said: Said) -> Said
     ensures { result ≡ said_on (view g) said }
 {
     if range::in_range(g) {
-        return said;
+        said
+    } else {
+        out_of_range(g.core)
     }
-    let core = g.core;
-    out_of_range(core)
 }
 
 // The same of a session's call.
+#[tactic(auto, unfolding(crate::specs::Served::ended_on, state::specs::View::view))]
 pub fn ended_on(g: Gate, e: Ended) -> Ended
     ensures { result ≡ ended_on (view g) e }
 {
     if range::in_range(g) {
-        return e;
+        e
+    } else {
+        validation::ends::unvalidated(out_of_range(g.core))
     }
-    let core = g.core;
-    let said = out_of_range(core);
-    validation::ends::unvalidated(said)
 }
 
 // 25, as an operation on the lists gives it.
+#[tactic(auto, unfolding(state::specs::View::lists_stay))]
 pub fn lists_out_of_range(phones: Phones) -> Listed
     ensures { result ≡ listed_in phones (lists_stay nothing_raised BadSettings) }
 {
-    let raised = state::replies::nothing_raised();
     Listed {
         answer: Answer::BadSettings,
-        raised,
+        raised: state::replies::nothing_raised(),
         stores: false,
         phones,
     }
 }
 
 // The same of an operation on the lists.
+#[tactic(auto, unfolding(crate::specs::Served::listed_on))]
 pub fn listed_on(g: Gate, x: Listed) -> Listed
     ensures { result ≡ listed_on g x }
 {
     if range::in_range(g) {
-        return x;
+        x
+    } else {
+        lists_out_of_range(g.phones)
     }
-    let phones = g.phones;
-    lists_out_of_range(phones)
 }
 
 // 25, as an operation on the save gives it.
@@ -86,6 +88,7 @@ pub fn save_out_of_range(save: Save) -> Kept
 }
 
 // S, with the record of a store.
+#[tactic(auto, unfolding(validations::specs::Store::record_for))]
 fn stored(v: Store) -> ValidationsSignal
     ensures { result ≡ sent_s (record_for (cars_of v)) }
 {
@@ -97,13 +100,12 @@ fn stored(v: Store) -> ValidationsSignal
 fn raised_by(held: [u8; 9], drawn: [u8; 9], said: Said) -> Raised
     ensures { result ≡ showing (code_at held drawn said.shows) said.raised }
 {
-    let shows = said.shows;
-    let digits = state::replies::code_at(held, drawn, shows);
-    let told = said.raised;
-    state::replies::showing(digits, told)
+    let digits = state::replies::code_at(held, drawn, said.shows);
+    state::replies::showing(digits, said.raised)
 }
 
 // The gate with these lists, this save and these waiting frames, and with the digits where the operation marks them.
+#[tactic(auto, unfolding(crate::specs::Settled::put))]
 fn put(
     held: [u8; 9],
     drawn: [u8; 9],
@@ -115,21 +117,16 @@ fn put(
 ) -> Outcome
     ensures { result ≡ Settled.put held drawn said phones save queue signals }
 {
-    let mark = said.code;
-    let code = state::replies::code_at(held, drawn, mark);
-    let core = said.core;
-    let gate = Gate {
-        core,
-        phones,
-        save,
-        queue,
-        code,
-    };
-    let answer = said.answer;
     Outcome {
-        answer,
+        answer: said.answer,
         signals,
-        gate,
+        gate: Gate {
+            core: said.core,
+            phones,
+            save,
+            queue,
+            code: state::replies::code_at(held, drawn, said.code),
+        },
     }
 }
 
@@ -138,31 +135,26 @@ fn stored_if(stores: bool, v: Store) -> ValidationsSignal
     ensures { result ≡ stored_if stores (cars_of v) }
 {
     if stores {
-        return stored(v);
+        stored(v)
+    } else {
+        state::replies::no_stored()
     }
-    state::replies::no_stored()
 }
 
 // What an operation on the core says, where the call drew digits: the lists stay.
 pub fn drew(g: Gate, drawn: [u8; 9], said: Said) -> Outcome
     ensures { given result ≡ gives packed g nothing (of_core (view g) drawn said) }
 {
-    let held = g.code;
-    let raised = raised_by(held, drawn, said);
-    let none = state::replies::no_stored();
-    let signals = state::replies::sending(raised, none);
-    let phones = g.phones;
-    let save = g.save;
-    let queue = g.queue;
-    put(held, drawn, said, phones, save, queue, signals)
+    let raised = raised_by(g.code, drawn, said);
+    let signals = state::replies::sending(raised, state::replies::no_stored());
+    put(g.code, drawn, said, g.phones, g.save, g.queue, signals)
 }
 
 // The same of a call that draws none.
 pub fn settled(g: Gate, said: Said) -> Outcome
     ensures { given result ≡ gives packed g nothing (of_core (view g) no_code said) }
 {
-    let none = [0u8; 9];
-    drew(g, none, said)
+    drew(g, [0; 9], said)
 }
 
 // The store after a session's call: where it succeeds, its phone is validated for its car.
@@ -170,58 +162,39 @@ fn validated_by(v: Store, e: Ended) -> Store
     ensures { result ≡ laid_store v (validates (cars_of v) e.said.core.validation.session e.validates) }
 {
     if e.validates {
-        let session = e.said.core.validation.session;
-        let car = session.car;
-        let phone = session.phone;
-        return add_validation::validate(v, car, phone);
+        let s = e.said.core.validation.session;
+        add_validation::validate(v, s.car, s.phone)
+    } else {
+        v
     }
-    v
 }
 
 // What an operation on a session says. S is sent where the session succeeds.
 pub fn ended(g: Gate, e: Ended) -> Outcome
     ensures { given result ≡ gives packed g nothing (of_session (view g) e) }
 {
-    let before = g.phones.store;
-    let store = validated_by(before, e);
-    let said = e.said;
-    let held = g.code;
-    let none = [0u8; 9];
-    let raised = raised_by(held, none, said);
+    let store = validated_by(g.phones.store, e);
+    let none = [0; 9];
+    let raised = raised_by(g.code, none, e.said);
     let s = stored_if(e.validates, store);
     let signals = state::replies::sending(raised, s);
-    let paired = g.phones.paired;
-    let phones = Phones { paired, store };
-    let save = g.save;
-    let queue = g.queue;
-    put(held, none, said, phones, save, queue, signals)
+    let phones = Phones { store, ..g.phones };
+    put(g.code, none, e.said, phones, g.save, g.queue, signals)
 }
 
 // What an operation on the lists gives.
 pub fn listed(g: Gate, x: Listed) -> Outcome
     ensures { Settles g x result }
 {
-    let phones = x.phones;
-    let store = phones.store;
-    let s = stored_if(x.stores, store);
-    let raised = x.raised;
-    let signals = state::replies::sending(raised, s);
-    let core = g.core;
-    let save = g.save;
-    let queue = g.queue;
-    let code = g.code;
-    let gate = Gate {
-        core,
-        phones,
-        save,
-        queue,
-        code,
-    };
-    let answer = x.answer;
+    let s = stored_if(x.stores, x.phones.store);
+    let signals = state::replies::sending(x.raised, s);
     Outcome {
-        answer,
+        answer: x.answer,
         signals,
-        gate,
+        gate: Gate {
+            phones: x.phones,
+            ..g
+        },
     }
 }
 
@@ -229,24 +202,10 @@ pub fn listed(g: Gate, x: Listed) -> Outcome
 pub fn kept(g: Gate, x: Kept) -> Outcome
     ensures { Keeps g x result }
 {
-    let signals = state::replies::no_signals();
-    let core = g.core;
-    let phones = g.phones;
-    let save = x.save;
-    let queue = g.queue;
-    let code = g.code;
-    let gate = Gate {
-        core,
-        phones,
-        save,
-        queue,
-        code,
-    };
-    let answer = x.answer;
     Outcome {
-        answer,
-        signals,
-        gate,
+        answer: x.answer,
+        signals: state::replies::no_signals(),
+        gate: Gate { save: x.save, ..g },
     }
 }
 
@@ -254,20 +213,9 @@ pub fn kept(g: Gate, x: Kept) -> Outcome
 pub fn queued(g: Gate, answer: Answer, core: Core, queue: Queue) -> Outcome
     ensures { result ≡ Settled.queued g answer core queue }
 {
-    let signals = state::replies::no_signals();
-    let phones = g.phones;
-    let save = g.save;
-    let code = g.code;
-    let gate = Gate {
-        core,
-        phones,
-        save,
-        queue,
-        code,
-    };
     Outcome {
         answer,
-        signals,
-        gate,
+        signals: state::replies::no_signals(),
+        gate: Gate { core, queue, ..g },
     }
 }
