@@ -2,78 +2,74 @@
 // without phones leaves.
 #![tactic(auto)]
 
-ghost use Rattle.std.specs.Prelude.{◌≡◌, true};
+ghost use Rattle.std.specs.Prelude.{◌≡◌, ◌≤◌, true, false, length, map};
 ghost use Rattle.phones.specs.Ids.{contains, remove_all, retain_in, some_of, stays};
 ghost use Rattle.phones.specs.Phones.{phones_of};
 ghost use Rattle.saved_record.specs.SavedRecord.{CarIds};
 ghost use Rattle.saved_record.specs.Store.{car_of, cars_of, store_of};
-ghost use Rattle.state.specs.Replies.{phone_access_changed};
+ghost use Rattle.state.specs.Replies.{nothing_raised, phone_access_changed};
 ghost use Rattle.state.specs.View.{lists_in, listed_in};
 ghost use Rattle.validations.specs.Store.{under_every, storing, loses_some};
 ghost use Rattle.validations.specs.Store as Calls;
+ghost use Rattle.forget_validations.specs.Every.{UnderEvery};
 
 use phones::PhoneList;
 use saved_record::{CarPhones, Store};
 use state::{Answer, Listed, Phones};
 
 // Whether some car lists the phone.
-fn lists_phone(s: Store, id: &[u8]) -> bool
-    ensures { result ≡ some_of (λ (c : CarIds). contains id.now c.phones) (cars_of s) }
+fn lists_phone(cars: &[CarPhones], id: &[u8]) -> bool
+    ensures { result ≡ some_of (λ (c : CarIds). contains id.now c.phones) (map car_of cars.now) }
 {
-    let n = saved_record::clamp_cars(s.count);
-    let cars = s.cars;
-    let mut i = 0;
-    while i < n {
-        let one = cars[i];
-        let list = one.phones;
-        if phones::contains(list, id) {
-            return true;
-        }
-        i += 1;
-    }
-    false
+    cars.iter().any(|c| phones::contains(c.phones, id))
 }
 
-// The store without the phone; a car without phones leaves.
-fn without_phone(s: Store, id: &[u8]) -> Store
-    ensures { result ≡ store_of (under_every (remove_all id.now) (cars_of s)) }
+// The store with what is left of every list; a car without phones leaves.
+fn under_every<F: Fn(PhoneList) -> PhoneList>(cars: &[CarPhones], left_of: F) -> Store
+    requires callable { F.IsAlwaysCallable left_of }
+    requires few { length cars.now ≤ 4 }
+    ensures { UnderEvery (F.post left_of) (map car_of cars.now) result }
 {
-    let n = saved_record::clamp_cars(s.count);
-    let cars = s.cars;
-    let none = saved_record::empty_car();
-    let mut left = [none; 4];
-    let mut k = 0;
-    let mut i = 0;
-    while i < n {
-        let one = cars[i];
-        i += 1;
-        let list = one.phones;
-        let rest = list_removals::remove_all(list, id);
-        if 0 < phones::count(rest) {
-            let car = one.car;
-            let some = CarPhones { car, phones: rest };
-            left[k] = some;
-            k += 1;
+    let mut left = saved_record::empty_store();
+    for c in cars {
+        let phones = left_of(c.phones);
+        if 0 < phones::count(phones) {
+            left.cars[left.count] = CarPhones { phones, ..*c };
+            left.count += 1;
         }
     }
-    Store {
-        cars: left,
-        count: k,
-    }
+    left
+}
+
+// The store without the phone.
+fn without_phone(cars: &[CarPhones], id: &[u8]) -> Store
+    requires { length cars.now ≤ 4 }
+    ensures { result ≡ store_of (under_every (remove_all id.now) (map car_of cars.now)) }
+{
+    under_every(cars, |list| list_removals::remove_all(list, id))
 }
 
 // store_validations: the store changed.
 fn stored(p: Phones, answer: Answer, store: Store) -> Listed
     ensures { result ≡ record { answer = answer; raised = phone_access_changed; stores = true; phones = record { paired = p.paired; store = store } } }
 {
-    let raised = state::replies::phone_access_changed();
-    let mut phones = p;
-    phones.store = store;
     Listed {
         answer,
-        raised,
+        raised: state::replies::phone_access_changed(),
         stores: true,
-        phones,
+        phones: Phones { store, ..p },
+    }
+}
+
+// Nothing changed.
+fn unchanged(p: Phones, answer: Answer) -> Listed
+    ensures { result ≡ record { answer = answer; raised = nothing_raised; stores = false; phones = p } }
+{
+    Listed {
+        answer,
+        raised: state::replies::nothing_raised(),
+        stores: false,
+        phones: p,
     }
 }
 
@@ -81,20 +77,15 @@ fn stored(p: Phones, answer: Answer, store: Store) -> Listed
 pub fn forgetting(p: Phones, answer: Answer, id: &[u8]) -> Listed
     ensures { result ≡ listed_in p (storing answer stays (Calls.forgetting (cars_of p.store) id.now)) }
 {
-    let store = p.store;
-    if lists_phone(store, id) {
-        let left = without_phone(store, id);
-        return stored(p, answer, left);
-    }
-    let raised = state::replies::nothing_raised();
-    Listed {
-        answer,
-        raised,
-        stores: false,
-        phones: p,
+    let cars = &p.store.cars[..saved_record::clamp_cars(p.store.count)];
+    if lists_phone(cars, id) {
+        stored(p, answer, without_phone(cars, id))
+    } else {
+        unchanged(p, answer)
     }
 }
 
+#[tactic(auto, unfolding(validations::specs::Store::forget))]
 pub fn forget_phone_validation(p: Phones, id: &[u8]) -> Listed
     ensures { result ≡ listed_in p (Calls.forget (lists_in p) id.now) }
 {
@@ -102,76 +93,34 @@ pub fn forget_phone_validation(p: Phones, id: &[u8]) -> Listed
 }
 
 // Whether some phone of a car is not paired.
-fn loses_some(c: CarPhones, paired: PhoneList) -> bool
-    ensures { result ≡ loses_some (phones_of paired) (car_of c) }
+fn loses_some(c: &CarPhones, paired: PhoneList) -> bool
+    ensures { result ≡ loses_some (phones_of paired) (car_of c.now) }
 {
-    let list = c.phones;
-    let kept = list_removals::retain_in(list, paired);
-    if phones::count(kept) == phones::count(list) {
-        return false;
-    }
-    true
+    phones::count(list_removals::retain_in(c.phones, paired)) != phones::count(c.phones)
 }
 
 // Whether some phone of some car is not paired.
-fn some_unpaired(s: Store, paired: PhoneList) -> bool
-    ensures { result ≡ some_of (loses_some (phones_of paired)) (cars_of s) }
+fn some_unpaired(cars: &[CarPhones], paired: PhoneList) -> bool
+    ensures { result ≡ some_of (loses_some (phones_of paired)) (map car_of cars.now) }
 {
-    let n = saved_record::clamp_cars(s.count);
-    let cars = s.cars;
-    let mut i = 0;
-    while i < n {
-        let one = cars[i];
-        if loses_some(one, paired) {
-            return true;
-        }
-        i += 1;
-    }
-    false
+    cars.iter().any(|c| loses_some(c, paired))
 }
 
-// The store with the paired phones alone; a car without phones leaves.
-fn with_paired(s: Store, paired: PhoneList) -> Store
-    ensures { result ≡ store_of (under_every (retain_in (phones_of paired)) (cars_of s)) }
+// The store with the paired phones alone.
+fn with_paired(cars: &[CarPhones], paired: PhoneList) -> Store
+    requires { length cars.now ≤ 4 }
+    ensures { result ≡ store_of (under_every (retain_in (phones_of paired)) (map car_of cars.now)) }
 {
-    let n = saved_record::clamp_cars(s.count);
-    let cars = s.cars;
-    let none = saved_record::empty_car();
-    let mut left = [none; 4];
-    let mut k = 0;
-    let mut i = 0;
-    while i < n {
-        let one = cars[i];
-        i += 1;
-        let list = one.phones;
-        let kept = list_removals::retain_in(list, paired);
-        if 0 < phones::count(kept) {
-            let car = one.car;
-            let some = CarPhones { car, phones: kept };
-            left[k] = some;
-            k += 1;
-        }
-    }
-    Store {
-        cars: left,
-        count: k,
-    }
+    under_every(cars, |list| list_removals::retain_in(list, paired))
 }
 
 pub fn prune_phone_validations(p: Phones) -> Listed
     ensures { result ≡ listed_in p (Calls.prune (lists_in p)) }
 {
-    let store = p.store;
-    let paired = p.paired;
-    if some_unpaired(store, paired) {
-        let left = with_paired(store, paired);
-        return stored(p, Answer::Done, left);
-    }
-    let raised = state::replies::nothing_raised();
-    Listed {
-        answer: Answer::Done,
-        raised,
-        stores: false,
-        phones: p,
+    let cars = &p.store.cars[..saved_record::clamp_cars(p.store.count)];
+    if some_unpaired(cars, p.paired) {
+        stored(p, Answer::Done, with_paired(cars, p.paired))
+    } else {
+        unchanged(p, Answer::Done)
     }
 }
