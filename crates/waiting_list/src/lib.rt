@@ -22,11 +22,7 @@ pub fn load(list: &[Waiting]) -> [Waiting; 16]
     ensures { result ≡ list.now }
 {
     let mut all = [list[0]; 16];
-    let mut i: usize = 0;
-    while i < 16 {
-        all[i] = list[i];
-        i += 1;
-    }
+    all.copy_from_slice(list);
     all
 }
 
@@ -42,12 +38,13 @@ pub fn store(list: &mut [Waiting], all: [Waiting; 16])
 pub fn under_bus(w: Waiting) -> Waiting
     ensures { result ≡ under_bus w }
 {
-    let old = w.frame;
-    let mut frame = old;
-    frame.bus = old.bus % 4;
-    let mut next = w;
-    next.frame = frame;
-    next
+    Waiting {
+        frame: CanFrame {
+            bus: w.frame.bus % 4,
+            ..w.frame
+        },
+        ..w
+    }
 }
 
 fn is_on(w: Waiting, bus: u8) -> bool
@@ -67,16 +64,10 @@ fn clip(count: usize) -> usize
 pub fn first_on(all: [Waiting; 16], count: usize, bus: u8) -> usize
     ensures { result ≡ oldest_on bus (waiting_of all count) }
 {
-    let n = clip(count);
-    let mut i = 0;
-    while i < n {
-        let w = all[i];
-        if is_on(w, bus) {
-            return i;
-        }
-        i += 1;
-    }
-    i
+    all.iter()
+        .take(count)
+        .position(|w| is_on(*w, bus))
+        .unwrap_or(clip(count))
 }
 
 // The place of the frame that the next turn takes, going round past the bus last served; 0 if none waits.
@@ -85,17 +76,11 @@ pub fn next_place(all: [Waiting; 16], count: usize, last: u8) -> usize
 {
     let n = clip(count);
     let l = last % 4;
-    let a = first_on(all, count, (l + 1) % 4);
-    if a < n {
-        return a;
-    }
-    let b = first_on(all, count, (l + 2) % 4);
-    if b < n {
-        return b;
-    }
-    let c = first_on(all, count, (l + 3) % 4);
-    if c < n {
-        return c;
+    for step in 1..=3 {
+        let place = first_on(all, count, (l + step) % 4);
+        if place < n {
+            return place;
+        }
     }
     first_on(all, count, l)
 }
@@ -118,12 +103,9 @@ fn last_of(count: usize) -> usize
 pub fn closed_up(all: [Waiting; 16], at: usize, count: usize) -> [Waiting; 16]
     ensures { result ≡ closed_up all at count }
 {
-    let last = last_of(count);
     let mut l = all;
-    let mut i = at;
-    while i < last {
+    for i in at..last_of(count) {
         l[i] = l[i + 1];
-        i += 1;
     }
     l
 }
