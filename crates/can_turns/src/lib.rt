@@ -31,47 +31,30 @@ fn owner_validated(identity: Identity, phones: Phones, w: Waiting) -> bool
 fn with_decision(report: Report, frame: CanFrame, allowed: bool) -> Report
     ensures { Reports result report frame allowed }
 {
-    let k = report.turns;
-    if k < 16 {
-        let mut frames = report.frames;
-        let one = Decided { frame, allowed };
-        frames[k] = one;
-        return Report {
-            turns: k + 1,
-            frames,
-        };
+    let mut next = report;
+    if next.turns < 16 {
+        next.frames[next.turns] = Decided { frame, allowed };
+        next.turns += 1;
     }
-    report
+    next
 }
 
 // One turn: the oldest frame of the next bus that has one, decided by allow at this clock; the later ones move up.
 fn turn(phones: Phones, clock: u64, s: Run) -> Run
     ensures { Turns result (lists_in phones) clock s }
 {
-    let q = s.queue;
-    let all = s.all;
-    let place = waiting_list::next_place(all, q.count, q.last);
-    let old = waiting_list::record_at(all, place);
-    let w = waiting_list::under_bus(old);
-    let core = s.core;
-    let identity = core.policy.identity;
-    let validated = owner_validated(identity, phones, w);
-    let frame = w.frame;
-    let class = w.class;
-    let v = can_tx::decide_can_tx(core, frame.bus, frame, class, validated, clock);
-    let before = s.report;
-    let report = with_decision(before, frame, can_tx::is_yes(v));
-    let left = waiting_list::closed_up(all, place, q.count);
-    let next = can_tx::core_by(core, v);
-    let queue = Queue {
-        count: q.count.saturating_sub(1),
-        last: frame.bus,
-    };
+    let place = waiting_list::next_place(s.all, s.queue.count, s.queue.last);
+    let w = waiting_list::under_bus(waiting_list::record_at(s.all, place));
+    let validated = owner_validated(s.core.policy.identity, phones, w);
+    let v = can_tx::decide_can_tx(s.core, w.frame.bus, w.frame, w.class, validated, clock);
     Run {
-        core: next,
-        queue,
-        all: left,
-        report,
+        core: can_tx::core_by(s.core, v),
+        queue: Queue {
+            count: s.queue.count.saturating_sub(1),
+            last: w.frame.bus,
+        },
+        all: waiting_list::closed_up(s.all, place, s.queue.count),
+        report: with_decision(s.report, w.frame, can_tx::is_yes(v)),
     }
 }
 
@@ -79,31 +62,31 @@ fn turn(phones: Phones, clock: u64, s: Run) -> Run
 pub fn no_report() -> Report
     ensures { result ≡ report_of [] }
 {
-    let data = [0u8; 8];
     let frame = CanFrame {
         bus: 0,
         id: Id::Standard(0),
-        data,
+        data: [0; 8],
         dlc: 0,
     };
     let one = Decided {
         frame,
         allowed: false,
     };
-    let frames = [one; 16];
-    Report { turns: 0, frames }
+    Report {
+        turns: 0,
+        frames: [one; 16],
+    }
 }
 
 // Before the first turn.
 pub fn no_turn(core: Core, q: Queue, all: [Waiting; 16]) -> Run
     ensures { result ≡ run_of (no_turn core q all) }
 {
-    let report = no_report();
     Run {
         core,
         queue: q,
         all,
-        report,
+        report: no_report(),
     }
 }
 

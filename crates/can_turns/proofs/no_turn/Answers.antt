@@ -1,4 +1,0 @@
-use Rattle.can_turns.proofs.no_turn.Goals as goal
-
-pub returns : goal.returns
-returns c = rw c.no_report-report.ensures
