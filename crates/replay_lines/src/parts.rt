@@ -28,11 +28,8 @@ pub fn put_phones(out: &mut [u8], at: usize, l: PhoneList) -> usize
     ensures { page out.new result ≡ ids_from 0 (phones_of l) (page out.old at) }
 {
     let mut k = at;
-    let mut from = 0;
-    for i in 0..phones::clamp(l.count) {
-        let end = from + phones::part(l.lens[i], l.bytes.len() - from);
-        k = put_phone_at(out, k, i, &l.bytes[from..end]);
-        from = end;
+    for (i, id) in l.ids().enumerate() {
+        k = put_phone_at(out, k, i, id);
     }
     k
 }
