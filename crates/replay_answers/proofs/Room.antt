@@ -1,14 +1,6 @@
 -- The room that the answers of queries take.
-use mathlib.Core.Path.{◌≡◌, refl, ap}
-use mathlib.Core.Bool.{false}
-use mathlib.Core.List.{List, [], ◌∷◌}
-use Prim.Native.Nat.{ℕ, zero, suc, ◌+◌, ◌*◌, ◌^◌, ◌≤◌, ◌<◌}
-use native.Mathlib.Nat.{le_of_eq}
-use native.Mathlib.Omega.{arith}
-use lib.Dec.{ltb, lit≤}
-use lib.ListN.{length, get_or, take, length-take}
+use Rattle.std.proofs.Common.{◌≡◌, refl, ap, false, List, [], ◌∷◌, ℕ, zero, suc, ◌+◌, ◌*◌, ◌^◌, ◌≤◌, ◌<◌, le_of_eq, arith, ltb, lit≤, length, get_or, take, length-take, rules}
 use mir.Val.{Val}
-use borrow.Author.Rules.{rules}
 use Rattle.ascii.specs.Ascii.{ascii}
 use Rattle.answers.specs.declared.AccessAnswer.{AccessAnswer}
 use Rattle.answers.specs.declared.ApprovalAnswer.{ApprovalAnswer}

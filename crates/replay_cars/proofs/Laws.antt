@@ -1,10 +1,5 @@
 -- Laws of the cars of a store, place by place.
-use mathlib.Core.Path.{◌≡◌, refl, sym, ◌∙◌}
-use mathlib.Core.List.{List, [], ◌∷◌}
-use Prim.Native.Nat.{ℕ, ◌+◌, ◌≤◌, ◌<◌}
-use native.Mathlib.Numerals.{add-one}
-use native.Mathlib.Omega.{arith}
-use lib.ListN.{length, drop, get_or, drop_of_length-le}
+use Rattle.std.proofs.Common.{◌≡◌, refl, sym, ◌∙◌, List, [], ◌∷◌, ℕ, ◌+◌, ◌≤◌, ◌<◌, add-one, arith, length, drop, get_or, drop_of_length-le}
 use lib.Seq.{drop-cons}
 use Rattle.saved_record.specs.declared.CarPhones.{CarPhones}
 use Rattle.saved_record.specs.SavedRecord.{CarIds}

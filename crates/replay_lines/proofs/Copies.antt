@@ -1,9 +1,5 @@
 -- A copy of lent bytes, of which as many were lent in their place and left otherwise.
-use mathlib.Core.Path.{◌≡◌, sym, ap, ◌∙◌}
-use mathlib.Core.List.{List, ◌++◌}
-use Prim.Native.Nat.{ℕ, ◌≤◌}
-use native.Mathlib.Omega.{arith}
-use lib.ListN.{length, take, drop, length-append}
+use Rattle.std.proofs.Common.{◌≡◌, sym, ap, ◌∙◌, List, ◌++◌, ℕ, ◌≤◌, arith, length, take, drop, length-append}
 use lib.Seq.{take_at}
 
 module _ (lent copy left : List ℕ) (copied : take (length lent) copy ≡ lent) (kept : length left ≡ length (take (length lent) copy)) where

@@ -1,10 +1,5 @@
 -- The room that lent bytes, ids, methods and saved records take.
-use mathlib.Core.List.{List, [], ◌∷◌}
-use Prim.Native.Nat.{ℕ, suc, ◌+◌, ◌*◌, ◌≤◌}
-use native.Mathlib.Nat.{le_refl}
-use native.Mathlib.Omega.{arith}
-use lib.Dec.{lit≤}
-use lib.ListN.{length, take, drop, length-take, length-drop}
+use Rattle.std.proofs.Common.{List, [], ◌∷◌, ℕ, suc, ◌+◌, ◌*◌, ◌≤◌, le_refl, arith, lit≤, length, take, drop, length-take, length-drop}
 use Rattle.ascii.specs.Ascii.{ascii}
 use Rattle.phones.specs.Phones.{id_bytes, ids_in, phones_of}
 use Rattle.phones.specs.declared.PhoneList.{PhoneList}

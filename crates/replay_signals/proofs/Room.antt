@@ -1,13 +1,6 @@
 -- The room that the signals of a call take.
-use mathlib.Core.Bool.{Bool}
-use mathlib.Core.List.{List}
-use Prim.Native.Nat.{ℕ, ◌+◌, ◌≤◌}
-use native.Mathlib.Nat.{le_of_eq}
-use native.Mathlib.Omega.{arith}
-use lib.Dec.{eqb, lit≤}
-use lib.ListN.{length}
+use Rattle.std.proofs.Common.{Bool, List, ℕ, ◌+◌, ◌≤◌, le_of_eq, arith, eqb, lit≤, length, rules}
 use mir.Val.{Val}
-use borrow.Author.Rules.{rules}
 use Rattle.ascii.specs.Ascii.{ascii}
 use Rattle.state.specs.Replies.{no_signals}
 use Rattle.state.specs.declared.ApprovalSignal.{ApprovalSignal}

@@ -1,13 +1,6 @@
 -- The room that the whole state of a gate takes.
-use mathlib.Core.Bool.{false}
-use mathlib.Core.List.{List}
-use Prim.Native.Nat.{ℕ, zero, suc, ◌*◌, ◌≤◌}
-use native.Mathlib.Nat.{le_of_eq}
-use native.Mathlib.Omega.{arith}
-use lib.Dec.{eqb, ltb, lit≤}
-use lib.ListN.{length, get_or}
+use Rattle.std.proofs.Common.{false, List, ℕ, zero, suc, ◌*◌, ◌≤◌, le_of_eq, arith, eqb, ltb, lit≤, length, get_or, rules}
 use mir.Val.{Val}
-use borrow.Author.Rules.{rules}
 use Rattle.ascii.specs.Ascii.{ascii}
 use Rattle.phones.specs.declared.ShortId.{ShortId}
 use Rattle.phones.specs.contracts.ShortId as ShortId
