@@ -1,6 +1,5 @@
 -- Laws of the ids of a list and of the fields of a line, place by place.
-use Rattle.std.proofs.Common.{◌≡◌, sym, ◌∙◌, ℕ, ◌+◌, ◌≤◌, ◌<◌, List, [], ◌∷◌, length, drop, get_or, add-one}
-use Rattle.std.proofs.Common.{drop_of_length-le}
+use Rattle.std.proofs.Common.{◌≡◌, sym, ◌∙◌, ℕ, ◌+◌, ◌≤◌, ◌<◌, List, [], ◌∷◌, length, drop, get_or, drop_of_length-le, add-one}
 use lib.Seq.{drop-cons}
 use Rattle.replay_page.specs.Page.{Page}
 use Rattle.replay_lines.specs.Parts.{id_at, ids_from}

@@ -21,7 +21,7 @@ use Rattle.replay_lines.specs.Lent.{most_lent}
 use Rattle.replay_page.specs.Page.{Page}
 use Rattle.replay_page.specs.Room.{Within}
 use Rattle.replay_lines.proofs.AnswerRoom.{Owned}
-use Rattle.replay_page.proofs.Room.{◌⊕◌, upto, text_in, item_in, all_below}
+use Rattle.replay_page.proofs.Room.{◌⊕◌, upto, text_in, item_in}
 use Rattle.replay_names.specs.Names as Names
 use Rattle.replay_names.specs.Names.{table, rows}
 use Rattle.replay_state.proofs.Room.{gate_in}
@@ -36,6 +36,10 @@ use Rattle.replay_played.specs.Played.{begun, error_of, failed, ended, played_as
 use Rattle.replay_played.proofs.Laws.{played_host}
 
 -- ---- the name of a line that is a call
+
+abbrev all_below : ℕ → List (List ℕ) → Bool
+all_below n [] = true
+all_below n (w ∷ ws) = cond (ltb (length w) n) (all_below n ws) false
 
 named_by : (t : Bool) (x w : List ℕ) (m n : ℕ) → same_bytes w (name_of x) ≡ t → length (name_of x) < 32 → (m < n → length w < 32) → cond t 0 (suc m) < suc n → length w < 32
 named_by true x w m n e s f h = rw ((same_bytes_is w (name_of x)).0 e) s
