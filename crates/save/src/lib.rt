@@ -61,27 +61,25 @@ fn hand_out(s: Save, n: usize, out: &mut [u8])
 pub fn take_phone_validations_save(s: Save, out: &mut [u8]) -> Kept
     ensures { SaysOf result out.old out.new (taking s out.old) }
 {
-    if s.present {
-        let left = left_of(s);
-        if out.len() < left {
-            let n = out.len();
-            hand_out(s, n, out);
-            let mut save = s;
-            save.at = s.at + n;
-            return Kept {
-                answer: Answer::Taken(n, false),
-                save,
-            };
-        }
-        hand_out(s, left, out);
-        let save = no_save();
+    if !s.present {
         return Kept {
-            answer: Answer::Taken(left, true),
-            save,
+            answer: Answer::NoSave,
+            save: s,
         };
     }
-    Kept {
-        answer: Answer::NoSave,
-        save: s,
+    let left = left_of(s);
+    if out.len() < left {
+        let n = out.len();
+        hand_out(s, n, out);
+        Kept {
+            answer: Answer::Taken(n, false),
+            save: Save { at: s.at + n, ..s },
+        }
+    } else {
+        hand_out(s, left, out);
+        Kept {
+            answer: Answer::Taken(left, true),
+            save: no_save(),
+        }
     }
 }
