@@ -23,9 +23,10 @@ fn answer_yes_no(g: Gate, b: bool) -> Answer
     ensures { result ≡ Answers.if_in_range (view g) (yes_no b) }
 {
     if range::in_range(g) {
-        return state::replies::yes_no(b);
+        state::replies::yes_no(b)
+    } else {
+        Answer::BadSettings
     }
-    Answer::BadSettings
 }
 
 // ---- the policy
@@ -33,9 +34,7 @@ fn answer_yes_no(g: Gate, b: bool) -> Answer
 pub fn is_can_read_only(g: Gate) -> Answer
     ensures { answered g (plain result) ≡ step g (ask is_can_read_only) }
 {
-    let core = g.core;
-    let policy = core.policy;
-    answer_yes_no(g, policy::is_can_read_only(policy))
+    answer_yes_no(g, policy::is_can_read_only(g.core.policy))
 }
 
 // 1 to 7, or 0 for none.
@@ -43,116 +42,99 @@ pub fn can_read_only_reason(g: Gate) -> Answer
     ensures { answered g (plain result) ≡ step g (ask can_read_only_reason) }
 {
     if range::in_range(g) {
-        let core = g.core;
-        let policy = core.policy;
-        return Answer::Reason(policy::can_read_only_reason(policy));
+        Answer::Reason(policy::can_read_only_reason(g.core.policy))
+    } else {
+        Answer::BadSettings
     }
-    Answer::BadSettings
 }
 
 pub fn is_car_identity_confirmed(g: Gate) -> Answer
     ensures { answered g (plain result) ≡ step g (ask is_car_identity_confirmed) }
 {
-    let core = g.core;
-    answer_yes_no(g, core.policy.identity.confirmed)
+    answer_yes_no(g, g.core.policy.identity.confirmed)
 }
 
 pub fn is_car_fingerprint_confirmed(g: Gate) -> Answer
     ensures { answered g (plain result) ≡ step g (ask is_car_fingerprint_confirmed) }
 {
-    let core = g.core;
-    let identity = core.policy.identity;
-    answer_yes_no(g, policy::is_car_fingerprint_confirmed(identity))
+    answer_yes_no(
+        g,
+        policy::is_car_fingerprint_confirmed(g.core.policy.identity),
+    )
 }
 
 pub fn can_read_write_approval(g: Gate) -> ApprovalAnswer
     ensures { answered g (approval result) ≡ step g (ask can_read_write_approval) }
 {
     if range::in_range(g) {
-        let core = g.core;
-        let identity = core.policy.identity;
-        let access = core.policy.access;
-        let found = policy::can_read_write_approval(identity, access);
-        return ApprovalAnswer {
+        ApprovalAnswer {
             answer: Answer::Done,
-            approval: found,
-        };
-    }
-    ApprovalAnswer {
-        answer: Answer::BadSettings,
-        approval: Approval::NotApproved,
+            approval: policy::can_read_write_approval(g.core.policy.identity, g.core.policy.access),
+        }
+    } else {
+        ApprovalAnswer {
+            answer: Answer::BadSettings,
+            approval: Approval::NotApproved,
+        }
     }
 }
 
 pub fn has_can_dev_write_lock(g: Gate) -> Answer
     ensures { answered g (plain result) ≡ step g (ask has_can_dev_write_lock) }
 {
-    let core = g.core;
-    let access = core.policy.access;
-    answer_yes_no(g, policy::has_can_dev_write_lock(access))
+    answer_yes_no(g, policy::has_can_dev_write_lock(g.core.policy.access))
 }
 
 pub fn is_can_dev_write_unlocked(g: Gate) -> Answer
     ensures { answered g (plain result) ≡ step g (ask is_can_dev_write_unlocked) }
 {
-    let core = g.core;
-    let access = core.policy.access;
-    answer_yes_no(g, policy::is_can_dev_write_unlocked(access))
+    answer_yes_no(g, policy::is_can_dev_write_unlocked(g.core.policy.access))
 }
 
 pub fn can_access_state(g: Gate) -> AccessAnswer
     ensures { answered g (access result) ≡ step g (ask can_access_state) }
 {
     if range::in_range(g) {
-        let core = g.core;
-        let policy = core.policy;
-        return long_answers::access_of(policy);
+        long_answers::access_of(g.core.policy)
+    } else {
+        long_answers::no_access_state()
     }
-    long_answers::no_access_state()
 }
 
 pub fn platform_id(g: Gate) -> Answer
     ensures { answered g (plain result) ≡ step g (ask platform_id) }
 {
     if range::in_range(g) {
-        let core = g.core;
-        return Answer::Number(core.policy.identity.platform);
+        Answer::Number(g.core.policy.identity.platform)
+    } else {
+        Answer::BadSettings
     }
-    Answer::BadSettings
 }
 
 pub fn is_can_logging(g: Gate) -> Answer
     ensures { answered g (plain result) ≡ step g (ask is_can_logging) }
 {
-    let core = g.core;
-    answer_yes_no(g, core.policy.buses.logging)
+    answer_yes_no(g, g.core.policy.buses.logging)
 }
 
 pub fn is_can_fd_bus(g: Gate, bus: u8) -> Answer
     ensures { answered g (plain result) ≡ step g (ask (is_can_fd_bus bus)) }
 {
-    let core = g.core;
-    let buses = core.policy.buses;
-    answer_yes_no(g, policy::is_can_fd_bus(buses, bus))
+    answer_yes_no(g, policy::is_can_fd_bus(g.core.policy.buses, bus))
 }
 
 pub fn is_can_bus_read_only(g: Gate, bus: u8) -> Answer
     ensures { answered g (plain result) ≡ step g (ask (is_can_bus_read_only bus)) }
 {
-    let core = g.core;
-    let policy = core.policy;
-    answer_yes_no(g, policy::is_can_bus_read_only(policy, bus))
+    answer_yes_no(g, policy::is_can_bus_read_only(g.core.policy, bus))
 }
 
 pub fn is_can_bus_listen_only(g: Gate, bus: u8, clock: u64) -> Answer
     ensures { answered g (plain result) ≡ step g (ask (is_can_bus_listen_only bus clock)) }
 {
-    let core = g.core;
-    let policy = core.policy;
-    let probe = core.probe;
     answer_yes_no(
         g,
-        probe_window::is_can_bus_listen_only(policy, probe, bus, clock),
+        probe_window::is_can_bus_listen_only(g.core.policy, g.core.probe, bus, clock),
     )
 }
 
@@ -161,35 +143,32 @@ pub fn is_can_bus_listen_only(g: Gate, bus: u8, clock: u64) -> Answer
 pub fn is_phone_paired(g: Gate, id: &[u8]) -> Answer
     ensures { answered g (plain result) ≡ step g (ask (is_phone_paired id.now)) }
 {
-    let phones = g.phones;
-    answer_yes_no(g, phone_trust::is_paired(phones, id))
+    answer_yes_no(g, phone_trust::is_paired(g.phones, id))
 }
 
 pub fn paired_phone_count(g: Gate) -> Answer
     ensures { answered g (plain result) ≡ step g (ask paired_phone_count) }
 {
     if range::in_range(g) {
-        let paired = g.phones.paired;
-        return Answer::Count(phones::count(paired));
+        Answer::Count(phones::count(g.phones.paired))
+    } else {
+        Answer::BadSettings
     }
-    Answer::BadSettings
 }
 
 pub fn list_paired_phones(g: Gate) -> PhonesAnswer
     ensures { answered g (phones result.answer result.phones) ≡ step g (ask list_paired_phones) }
 {
     if range::in_range(g) {
-        let paired = g.phones.paired;
-        let list = phones::canonical(paired);
-        return PhonesAnswer {
+        PhonesAnswer {
             answer: Answer::Done,
-            phones: list,
-        };
-    }
-    let none = phones::empty_list();
-    PhonesAnswer {
-        answer: Answer::BadSettings,
-        phones: none,
+            phones: phones::canonical(g.phones.paired),
+        }
+    } else {
+        PhonesAnswer {
+            answer: Answer::BadSettings,
+            phones: phones::empty_list(),
+        }
     }
 }
 
@@ -197,43 +176,43 @@ pub fn ble_max_bonded_phones(g: Gate) -> Answer
     ensures { answered g (plain result) ≡ step g (ask ble_max_bonded_phones) }
 {
     if range::in_range(g) {
-        let core = g.core;
-        return Answer::Count(core.settings.bonded);
+        Answer::Count(g.core.settings.bonded)
+    } else {
+        Answer::BadSettings
     }
-    Answer::BadSettings
 }
 
 pub fn is_phone_validated(g: Gate, id: &[u8]) -> Answer
     ensures { answered g (plain result) ≡ step g (ask (is_phone_validated id.now)) }
 {
-    let identity = g.core.policy.identity;
-    let phones = g.phones;
-    answer_yes_no(g, phone_trust::is_phone_validated(identity, phones, id))
+    answer_yes_no(
+        g,
+        phone_trust::is_phone_validated(g.core.policy.identity, g.phones, id),
+    )
 }
 
 pub fn car_has_validated_phone(g: Gate) -> Answer
     ensures { answered g (plain result) ≡ step g (ask car_has_validated_phone) }
 {
-    let identity = g.core.policy.identity;
-    let phones = g.phones;
-    answer_yes_no(g, phone_trust::car_has_validated_phone(identity, phones))
+    answer_yes_no(
+        g,
+        phone_trust::car_has_validated_phone(g.core.policy.identity, g.phones),
+    )
 }
 
 pub fn phone_trust_level(g: Gate, id: &[u8]) -> TrustAnswer
     ensures { answered g (trust result) ≡ step g (ask (phone_trust_level id.now)) }
 {
     if range::in_range(g) {
-        let identity = g.core.policy.identity;
-        let phones = g.phones;
-        let level = phone_trust::phone_trust_level(identity, phones, id);
-        return TrustAnswer {
+        TrustAnswer {
             answer: Answer::Done,
-            trust: level,
-        };
-    }
-    TrustAnswer {
-        answer: Answer::BadSettings,
-        trust: Trust::NotBonded,
+            trust: phone_trust::phone_trust_level(g.core.policy.identity, g.phones, id),
+        }
+    } else {
+        TrustAnswer {
+            answer: Answer::BadSettings,
+            trust: Trust::NotBonded,
+        }
     }
 }
 
@@ -242,28 +221,25 @@ pub fn ble_peer(g: Gate) -> PeerAnswer
     ensures { answered g (peer result) ≡ step g (ask ble_peer) }
 {
     if range::in_range(g) {
-        let core = g.core;
-        let phones = g.phones;
-        return long_answers::peer_of(core, phones);
+        long_answers::peer_of(g.core, g.phones)
+    } else {
+        long_answers::no_peer(Answer::BadSettings)
     }
-    long_answers::no_peer(Answer::BadSettings)
 }
 
 pub fn encode_phone_validations(g: Gate) -> RecordAnswer
     ensures { answered g (saved result) ≡ step g (ask encode_phone_validations) }
 {
     if range::in_range(g) {
-        let v = g.phones.store;
-        let stored = validations::record_for(v);
-        return RecordAnswer {
+        RecordAnswer {
             answer: Answer::Done,
-            stored,
-        };
-    }
-    let none = saved_record::no_record();
-    RecordAnswer {
-        answer: Answer::BadSettings,
-        stored: none,
+            stored: validations::record_for(g.phones.store),
+        }
+    } else {
+        RecordAnswer {
+            answer: Answer::BadSettings,
+            stored: saved_record::no_record(),
+        }
     }
 }
 
@@ -273,31 +249,30 @@ pub fn phone_access_state(g: Gate, clock: u64) -> PhoneAccessAnswer
     ensures { answered g (phone_access result) ≡ step g (ask (phone_access_state clock)) }
 {
     if range::in_range(g) {
-        let core = g.core;
-        let phones = g.phones;
-        return long_answers::phone_access_of(core, phones, clock);
+        long_answers::phone_access_of(g.core, g.phones, clock)
+    } else {
+        long_answers::no_access(Answer::BadSettings)
     }
-    long_answers::no_access(Answer::BadSettings)
 }
 
 pub fn validation_methods(g: Gate) -> MethodsAnswer
     ensures { answered g (methods result) ≡ step g (ask validation_methods) }
 {
     if range::in_range(g) {
-        let core = g.core;
-        return long_answers::methods_of(core);
+        long_answers::methods_of(g.core)
+    } else {
+        long_answers::no_methods()
     }
-    long_answers::no_methods()
 }
 
 pub fn session_for(g: Gate, phone: &[u8], clock: u64) -> Answer
     ensures { answered g (plain result) ≡ step g (ask (session_for phone.now clock)) }
 {
     if range::in_range(g) {
-        let core = g.core;
-        return long_answers::session_shown(core, phone, clock);
+        long_answers::session_shown(g.core, phone, clock)
+    } else {
+        Answer::BadSettings
     }
-    Answer::BadSettings
 }
 
 // The only query that shows the digits.
@@ -305,9 +280,8 @@ pub fn current_validation_challenge(g: Gate) -> ChallengeAnswer
     ensures { answered g (challenge result) ≡ step g (ask current_validation_challenge) }
 {
     if range::in_range(g) {
-        let core = g.core;
-        let held = g.code;
-        return long_answers::challenge_now(core, held);
+        long_answers::challenge_now(g.core, g.code)
+    } else {
+        long_answers::no_challenge(Answer::BadSettings)
     }
-    long_answers::no_challenge(Answer::BadSettings)
 }

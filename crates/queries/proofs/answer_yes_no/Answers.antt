@@ -5,6 +5,6 @@ pub returns-then-in_range : goal.returns-then-in_range
 unfolding Answers.if_in_range
 returns-then-in_range c = rw (c.yes_no.ensures, ← c.in_range.ensures, c.if-in_range.true)
 
-pub returns : goal.returns
+pub returns-else-in_range : goal.returns-else-in_range
 unfolding Answers.if_in_range
-returns c = rw (← c.in_range.ensures, c.if-in_range.false)
+returns-else-in_range c = rw (← c.in_range.ensures, c.if-in_range.false)

@@ -6,8 +6,8 @@ use Rattle.queries.proofs.can_read_write_approval.Goals as goal
 
 pub returns-then-in_range : goal.returns-then-in_range
 unfolding answer_to view approval_answer
-returns-then-in_range c = let a = c.args in by_query a.g can_read_write_approval _ (rw (c.can_read_write_approval-found.ensures, ← c.in_range.ensures, c.if-in_range.true))
+returns-then-in_range c = let a = c.args in by_query a.g can_read_write_approval _ (rw (c.can_read_write_approval.ensures, ← c.in_range.ensures, c.if-in_range.true))
 
-pub returns : goal.returns
+pub returns-else-in_range : goal.returns-else-in_range
 unfolding answer_to view approval_answer
-returns c = let a = c.args in by_query a.g can_read_write_approval _ (rw (← c.in_range.ensures, c.if-in_range.false))
+returns-else-in_range c = let a = c.args in by_query a.g can_read_write_approval _ (rw (← c.in_range.ensures, c.if-in_range.false))

@@ -6,8 +6,8 @@ use Rattle.queries.proofs.encode_phone_validations.Goals as goal
 
 pub returns-then-in_range : goal.returns-then-in_range
 unfolding answer_to view record_answer
-returns-then-in_range c = let a = c.args in by_query a.g encode_phone_validations _ (rw (c.record_for-stored.ensures, ← c.in_range.ensures, c.if-in_range.true))
+returns-then-in_range c = let a = c.args in by_query a.g encode_phone_validations _ (rw (c.record_for.ensures, ← c.in_range.ensures, c.if-in_range.true))
 
-pub returns : goal.returns
+pub returns-else-in_range : goal.returns-else-in_range
 unfolding answer_to view record_answer
-returns c = let a = c.args in by_query a.g encode_phone_validations _ (rw (c.no_record-none.ensures, ← c.in_range.ensures, c.if-in_range.false))
+returns-else-in_range c = let a = c.args in by_query a.g encode_phone_validations _ (rw (c.no_record.ensures, ← c.in_range.ensures, c.if-in_range.false))

@@ -8,6 +8,6 @@ pub returns-then-in_range : goal.returns-then-in_range
 unfolding answer_to view if_in_range
 returns-then-in_range c = let a = c.args in by_query a.g paired_phone_count _ (rw (c.count.ensures, ← c.in_range.ensures, c.if-in_range.true))
 
-pub returns : goal.returns
+pub returns-else-in_range : goal.returns-else-in_range
 unfolding answer_to view if_in_range
-returns c = let a = c.args in by_query a.g paired_phone_count _ (rw (← c.in_range.ensures, c.if-in_range.false))
+returns-else-in_range c = let a = c.args in by_query a.g paired_phone_count _ (rw (← c.in_range.ensures, c.if-in_range.false))

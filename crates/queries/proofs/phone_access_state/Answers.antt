@@ -8,6 +8,6 @@ pub returns-then-in_range : goal.returns-then-in_range
 unfolding answer_to view phone_access_answer
 returns-then-in_range c = let a = c.args in by_query a.g (phone_access_state a.clock) _ (rw (c.phone_access_of.ensures, ← c.in_range.ensures, c.if-in_range.true))
 
-pub returns : goal.returns
+pub returns-else-in_range : goal.returns-else-in_range
 unfolding answer_to view phone_access_answer
-returns c = let a = c.args in by_query a.g (phone_access_state a.clock) _ (rw (c.no_access.ensures, ← c.in_range.ensures, c.if-in_range.false))
+returns-else-in_range c = let a = c.args in by_query a.g (phone_access_state a.clock) _ (rw (c.no_access.ensures, ← c.in_range.ensures, c.if-in_range.false))

@@ -6,8 +6,8 @@ use Rattle.queries.proofs.phone_trust_level.Goals as goal
 
 pub returns-then-in_range : goal.returns-then-in_range
 unfolding answer_to view trust_answer
-returns-then-in_range c = let a = c.args in by_query a.g (phone_trust_level a.id.now) _ (rw (c.phone_trust_level-level.ensures, ← c.in_range.ensures, c.if-in_range.true))
+returns-then-in_range c = let a = c.args in by_query a.g (phone_trust_level a.id.now) _ (rw (c.phone_trust_level.ensures, ← c.in_range.ensures, c.if-in_range.true))
 
-pub returns : goal.returns
+pub returns-else-in_range : goal.returns-else-in_range
 unfolding answer_to view trust_answer
-returns c = let a = c.args in by_query a.g (phone_trust_level a.id.now) _ (rw (← c.in_range.ensures, c.if-in_range.false))
+returns-else-in_range c = let a = c.args in by_query a.g (phone_trust_level a.id.now) _ (rw (← c.in_range.ensures, c.if-in_range.false))
