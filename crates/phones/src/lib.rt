@@ -183,7 +183,7 @@ pub fn id_in_range(p: ShortId) -> bool
 }
 
 // How long the next id of a list is: its length `n`, cut where only `rest` bytes are left. It still fits a byte.
-pub fn part(n: u8, rest: usize) -> usize
+fn part(n: u8, rest: usize) -> usize
     ensures { (result ≡ min n rest) × (result < 256) }
 {
     usize::from(n).min(rest)
