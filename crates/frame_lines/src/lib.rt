@@ -124,7 +124,7 @@ fn put_kind(out: &mut [u8], at: usize, id: Id) -> usize
     }
 }
 
-// The bytes of a frame.
+// The bytes of a frame. Its clause says of them what `put_back`'s proof needs: the text of their digits.
 fn put_data(out: &mut [u8], at: usize, data: [u8; 8]) -> usize
     ensures { page out.new result ≡ text (hex_of «data») (page out.old at) }
 {

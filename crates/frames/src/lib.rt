@@ -65,7 +65,7 @@ pub fn same_id(a: Id, b: Id) -> bool
     a == b
 }
 
-// Whether all eight data bytes are equal. Its contract has the definition that laws of an entry are over.
+// Whether all eight data bytes are equal, in the words of `is_entry`.
 #[tactic(auto, using(arrays::proofs::Laws::same_is_pointwise))]
 pub fn same_data(x: [u8; 8], y: [u8; 8]) -> bool
     ensures { result ≡ same_bytes x y }
@@ -88,7 +88,7 @@ pub fn bus_exists(bus: u8) -> bool
     bus < MAX_CAN_BUSES
 }
 
-// Whether the frame belongs to a phone's command: a name for one pattern, as can_tx and can_queue ask it.
+// Whether the frame belongs to a phone's command. Public: replay_items asks it, and definitions name it.
 pub fn is_command(class: TxClass) -> bool
     ensures { result ≡ is_command class }
 {

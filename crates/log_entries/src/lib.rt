@@ -6,7 +6,7 @@ ghost use Rattle.log_entries.specs.Entries.{same_frame, entry, fits};
 
 use frames::CanFrame;
 
-// Whether two frames are equal in bus, kind, id, dlc and all eight bytes of data.
+// Whether two frames are equal in bus, kind, id, dlc and all eight bytes of data. Its contract says `==` in the words of `fits`.
 #[tactic(auto, using(arrays::proofs::Laws::same_is_pointwise), unfolding(crate::specs::Entries::same_frame))]
 fn same_frame(a: CanFrame, b: CanFrame) -> bool
     ensures { result ≡ same_frame a b }

@@ -139,7 +139,12 @@ pub fn match_logs(
     check_size(Log::Recorder, recorder.count, recorder_times)?;
     check_times(Log::Journal, journal_times)?;
     check_times(Log::Recorder, recorder_times)?;
-    let sent = &journal.frames[..journal.count];
-    let seen = &recorder.frames[..recorder.count];
-    Ok(assign(sent, journal_times, seen, recorder_times))
+    let journal_frames = &journal.frames[..journal.count];
+    let recorder_frames = &recorder.frames[..recorder.count];
+    Ok(assign(
+        journal_frames,
+        journal_times,
+        recorder_frames,
+        recorder_times,
+    ))
 }

@@ -9,7 +9,7 @@ ghost use Rattle.phones.specs.Ids.{any_in, joined, pushed, room_for};
 ghost use Rattle.phones.specs.Ids as Ids;
 ghost use Rattle.phones.specs.Phones.{id_bytes, id_of, made_id, id_in_range, ids_left, phones_of, list_of, list_in_range, laid};
 
-// An id of at most 32 bytes: a phone's, or a method's.
+// An id of at most 32 bytes: a phone's, or a method's. Memory is fixed, so an array with its length.
 #[derive(Clone, Copy)]
 pub struct ShortId {
     pub bytes: [u8; 32],
@@ -26,6 +26,7 @@ impl ShortId {
     }
 }
 
+// As the paper lays a list: an array of bytes, an array of lengths, a count. Memory is fixed.
 #[derive(Clone, Copy)]
 pub struct PhoneList {
     pub bytes: [u8; 1024],
@@ -108,13 +109,13 @@ impl Packing {
     }
 
     // Whether there is a place and the bytes for an id.
-    fn has_room(&self, id: &[u8]) -> bool
+    pub fn has_room(&self, id: &[u8]) -> bool
         ensures { result ≡ room_for id.now (phones_of self.now.list) }
     {
         self.list.count < 32 && self.end + id.len() <= 1024
     }
 
-    // One id more.
+    // One id more, where `has_room` says yes.
     pub fn push(&mut self, id: &[u8])
         requires byte { length id.now < 256 }
         requires room { IsTrue (room_for id.now (phones_of self.old.list)) }
@@ -127,7 +128,7 @@ impl Packing {
     }
 }
 
-// A length or a count, at most 32.
+// A length or a count, at most 32. Public: replay_host calls it.
 pub fn clamp(n: usize) -> usize
     ensures { result ≡ min n 32 }
 {

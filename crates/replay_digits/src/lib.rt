@@ -12,7 +12,7 @@ pub enum Written {
     HexOrText,
 }
 
-// The value of a digit, up to 15; 16 if it is none.
+// The value of a digit, up to 15; 16 if it is none, as `number_in`'s definition counts it for a base above 16.
 #[tactic(auto, unfolding(crate::specs::Digits::digit_of))]
 fn digit(b: u8) -> u8
     ensures { result ≡ digit_of b }
@@ -102,7 +102,8 @@ pub fn put_bytes(s: &[u8], form: Written, out: &mut [u8], at: usize)
     }
 }
 
-// The same where they are bytes and fit, and the place after them; otherwise nothing is written.
+// Writes the bytes that `s` says over `out` from `at` on, if it says bytes and they fit, and answers the place after them;
+// otherwise writes nothing.
 #[tactic(auto, unfolding(crate::specs::Digits::fits_in, crate::specs::Digits::laid_to, crate::specs::Digits::lay_bytes))]
 pub fn bytes(s: &[u8], form: Written, out: &mut [u8], at: usize) -> Option<usize>
     ensures place { result ≡ laid_to form s.now at (length out.old) }

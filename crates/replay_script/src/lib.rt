@@ -13,7 +13,7 @@ pub struct Span {
     pub end: usize,
 }
 
-// The place of the first `b` at or after `from`; the end if there is none.
+// The place of the first `b` at or after `from`; the end if there is none. Public: replay and frame_lines call it.
 pub fn find(s: &[u8], from: usize, b: u8) -> usize
     ensures { result ≡ from + before b (drop from s.now) }
 {
@@ -48,6 +48,7 @@ pub fn next(line: &[u8], from: usize, key: &[u8]) -> Option<Span>
     ensures { Next line.now from key.now result }
 {
     let mut at = find(line, from, b' ');
+    // No `for`: the place goes on by words, not by ones.
     while at < line.len() {
         let word = at + 1;
         let end = find(line, word, b' ');

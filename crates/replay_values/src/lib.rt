@@ -10,6 +10,7 @@ use frames::Id;
 use replay_digits::Written;
 use state::Car;
 
+// By `==`: the proof does not see the bytes of an arm of a `match`.
 #[tactic(auto, using(arrays::proofs::Laws::same_is_pointwise), unfolding(crate::specs::Values::flag_in))]
 pub fn flag_in(s: &[u8]) -> Option<bool>
     ensures { result ≡ flag_in s.now }

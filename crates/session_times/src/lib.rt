@@ -4,6 +4,7 @@
 ghost use Rattle.std.specs.Prelude.{◌≡◌};
 ghost use Rattle.session_times.specs.Times.{saturating_add, seconds_to, next_number};
 
+// Public: start and judge call it, and definitions name it.
 #[tactic(auto, unfolding(crate::specs::Times::saturating_add))]
 pub fn saturating_add(clock: u64, span: u64) -> u64
     ensures { result ≡ saturating_add clock span }

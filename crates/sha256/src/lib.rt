@@ -36,6 +36,7 @@ pub fn hash_blocks(h: [u32; 8], m: &[u8]) -> [u32; 8]
 {
     let mut s = h;
     for i in 0..m.len() / 64 {
+        // In two steps: with `s = compress(..)` the loop's proof did not close.
         let next = compress(s, m, i);
         s = next;
     }

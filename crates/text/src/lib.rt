@@ -64,7 +64,7 @@ fn trim(s: &[u8]) -> Option<&[u8]>
     Some(&s[start..end])
 }
 
-// A digit, as a draw gives it.
+// A digit, as a draw gives it. Its contract has the definition `is_digit`, for the two tests that call it.
 #[tactic(auto, unfolding(crate::specs::Text::is_digit, utf8::specs::Utf8::within))]
 fn is_digit(b: u8) -> bool
     ensures { result ≡ is_digit b }

@@ -41,6 +41,7 @@ pub fn is_named(row: &[u8], word: &[u8]) -> bool
 pub fn place_in(text: &[u8], word: &[u8]) -> usize
     ensures { result ≡ place_in (lines_of 10 text.now) word.now }
 {
+    // The library has no iterator that gives `first_piece`'s pieces, so the rows are counted here.
     let mut n = 0;
     let mut rows = text;
     while let Some((row, rest)) = first_piece(rows, b'\n') {
