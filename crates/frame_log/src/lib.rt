@@ -37,6 +37,7 @@ pub fn read_log(s: &[u8]) -> Result<ReadLog, LogError>
     let mut times = [0; 512];
     let mut n = 0;
     let mut last = 0;
+    // A `while` over what is left: the loop keeps `lines_of` of it, and `split_inclusive` tells its pieces by their first match.
     let mut rest = s;
     while !rest.is_empty() {
         let (line, more) = rest.split_at(line_length(rest));
