@@ -1,16 +1,9 @@
 -- Laws of the host's list: sixteen records taken out and put back, what is lent of it, and what the two calls give on that.
-use mathlib.Core.Path.{◌≡◌, refl, ap, ◌∙◌}
-use mathlib.Core.Bool.{Bool, true, false}
-use mathlib.Core.List.{List, [], ◌∷◌, ◌++◌, append-nil}
-use Prim.Native.Nat.{ℕ, zero, suc, min, ◌<◌}
-use native.Mathlib.Nat.{not-suc-le-zero, le_of_suc-le-suc, le_of_eq}
-use native.Mathlib.Omega.{arith}
-use borrow.Author.Tests.{le-ltb, ltb-true, ltb-false, ne_eqb}
-use lib.Dec.{eqb, ltb}
-use lib.ListN.{length, take, drop, get_or, set, length-take, drop_of_length-le}
+use Rattle.std.proofs.Common.{◌≡◌, Bool, true, false, List, ◌++◌, ℕ, min, eqb, ltb, refl, arith, ltb-true, ltb-false, ne_eqb, length, take, drop, replicate, length-take}
 use lib.Seq.{take_all, take-length, take_at, drop_at}
-use Rattle.phones.specs.Phones.{made_id}
-use Rattle.phones.specs.declared.MadeId.{MadeId}
+use Rattle.std.proofs.lemmas.List.{drop-replicate}
+use Rattle.arrays.specs.Arrays.{padded}
+use Rattle.phones.specs.Phones.{id_of}
 use Rattle.phones.specs.declared.ShortId.{ShortId}
 use Rattle.frames.specs.declared.CanFrame.{CanFrame}
 use Rattle.frames.specs.declared.TxClass.{TxClass}
@@ -24,17 +17,6 @@ use Rattle.gate_queue.proofs.Laws.{sends, sends_none, serves, serves_none}
 use Rattle.replay_host.specs.declared.Host.{Host}
 use Rattle.replay_host.specs.Host.{owner_of, lent_of, Sends, Serves}
 
--- one more place of ys holds what xs holds there
-pub copied : {A : Type 0} (xs ys : List A) (i : ℕ) (d : A) → i < length xs → i < length ys → set (take i xs ++ drop i ys) i (get_or xs i d) ≡ take (suc i) xs ++ drop (suc i) ys
-copied [] ys i d h k = absurd (not-suc-le-zero h)
-copied (x ∷ xs) [] i d h k = absurd (not-suc-le-zero k)
-copied (x ∷ xs) (y ∷ ys) zero d h k = refl
-copied {A} (x ∷ xs) (y ∷ ys) (suc i) d h k = ap (λ (l : List A). x ∷ l) (copied xs ys i d (le_of_suc-le-suc h) (le_of_suc-le-suc k))
-
--- all of them do
-pub copied_all : {A : Type 0} (all xs ys : List A) (i n : ℕ) → all ≡ take i xs ++ drop i ys → i ≡ n → length ys ≡ n → all ≡ take n xs
-copied_all all xs ys i n e h far = e ∙ rw (h, drop_of_length-le ys (le_of_eq far)) (append-nil (take n xs))
-
 -- ---- an owner
 
 first_bytes : (s : List ℕ) (n : ℕ) → n ≡ min (length s) 32 → take n s ≡ take 32 s
@@ -44,9 +26,13 @@ first_bytes s n e = go (ltb 32 (length s)) refl
     go true h = let f : n ≡ 32 = omega (arith, ltb-true 32 (length s) h) in rw f
     go false h = let f = ltb-false 32 (length s) h in let k : n ≡ length s = omega arith in rw (k, take-length s, take_all 32 s f)
 
-pub owner_made : (s : List ℕ) (n : ℕ) (m : MadeId) → n ≡ min (length s) 32 → m ≡ made_id (take n s) → ◌≡◌ {A = ShortId} (record { bytes = m.id.bytes; len = length s }) (owner_of s)
-unfolding made_id owner_of
-owner_made s n m e f = rw (f, first_bytes s n e, le-ltb 32 (length (take 32 s)) (omega (arith, length-take 32 s)))
+pub owner_made : (s : List ℕ) (n : ℕ) → n ≡ min (length s) 32
+    → ◌≡◌ {A = ShortId} (record { bytes = take n s ++ drop n (replicate 32 0); len = length s }) (owner_of s)
+unfolding owner_of id_of padded
+owner_made s n e =
+    let first = first_bytes s n e in
+    let kept : length (take 32 s) ≡ n = rw length-take (omega arith) in
+    rw (first, kept, drop-replicate {X = ℕ} n 32 0)
 
 -- ---- the calls
 

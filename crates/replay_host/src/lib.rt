@@ -1,6 +1,6 @@
 // What the host of a script holds from line to line: its gate, and the list that it lends to the calls on waiting frames (02, W-204).
 // The two calls are made here on what is lent of that list, by value.
-#![tactic(auto)]
+#![tactic(auto, unfolding(crate::specs::Host::never_set, crate::specs::Host::first_host, crate::specs::Host::record_of, crate::specs::Host::with_record, phones::specs::Phones::id_of, arrays::specs::Arrays::padded))]
 
 ghost use Rattle.std.specs.Prelude.{◌≡◌, ◌++◌, take, drop};
 ghost use Rattle.replay_host.specs.Host.{never_set, first_host, with_gate, with_counters, with_list, with_lent, owner_of, record_of, with_record, Sends, Serves};
@@ -36,31 +36,27 @@ pub struct Served {
 fn never_set() -> Waiting
     ensures { result ≡ never_set }
 {
-    let frame = CanFrame {
-        bus: 0,
-        id: Id::Standard(0),
-        data: [0u8; 8],
-        dlc: 0,
-    };
-    let owner = ShortId {
-        bytes: [0u8; 32],
-        len: 0,
-    };
     Waiting {
-        frame,
+        frame: CanFrame {
+            bus: 0,
+            id: Id::Standard(0),
+            data: [0; 8],
+            dlc: 0,
+        },
         class: TxClass::Platform,
-        owner,
+        owner: ShortId {
+            bytes: [0; 32],
+            len: 0,
+        },
     }
 }
 
 pub fn first_host(g: Gate) -> Host
     ensures { result ≡ first_host g }
 {
-    let w = never_set();
-    let list = [w; 17];
     Host {
         gate: g,
-        list,
+        list: [never_set(); 17],
         lent: 16,
     }
 }
@@ -68,25 +64,19 @@ pub fn first_host(g: Gate) -> Host
 pub fn with_gate(h: Host, gate: Gate) -> Host
     ensures { result ≡ with_gate h gate }
 {
-    let mut next = h;
-    next.gate = gate;
-    next
+    Host { gate, ..h }
 }
 
 pub fn with_list(h: Host, list: [Waiting; 17]) -> Host
     ensures { result ≡ with_list h list }
 {
-    let mut next = h;
-    next.list = list;
-    next
+    Host { list, ..h }
 }
 
 pub fn with_lent(h: Host, n: usize) -> Host
     ensures { result ≡ with_lent h n }
 {
-    let mut next = h;
-    next.lent = n;
-    next
+    Host { lent: n, ..h }
 }
 
 // Sets the number of the next session and the relock count.
@@ -102,34 +92,33 @@ pub fn with_counters(h: Host, next: u32, relocks: u32) -> Host
 fn owner_of(s: &[u8]) -> ShortId
     ensures { result ≡ owner_of s.now }
 {
-    let n = s.len();
-    let kept = phones::clamp(n);
-    let made = phones::make_id(&s[..kept]);
-    let mut id = made.id;
-    id.len = n;
-    id
+    let kept = s.len().min(32);
+    let mut bytes = [0; 32];
+    bytes[..kept].copy_from_slice(&s[..kept]);
+    ShortId {
+        bytes,
+        len: s.len(),
+    }
 }
 
 pub fn record_of(frame: CanFrame, class: TxClass, owner: &[u8]) -> Waiting
     ensures { result ≡ record_of frame class owner.now }
 {
-    let id = owner_of(owner);
     Waiting {
         frame,
         class,
-        owner: id,
+        owner: owner_of(owner),
     }
 }
 
 pub fn with_record(h: Host, place: usize, w: Waiting) -> Host
     ensures { result ≡ with_record h place w }
 {
+    let mut next = h;
     if place < 17 {
-        let mut list = h.list;
-        list[place] = w;
-        return with_list(h, list);
+        next.list[place] = w;
     }
-    h
+    next
 }
 
 // ---- the calls
@@ -138,13 +127,8 @@ pub fn with_record(h: Host, place: usize, w: Waiting) -> Host
 fn sixteen(list: [Waiting; 17]) -> [Waiting; 16]
     ensures { result ≡ take 16 list }
 {
-    let first = list[0];
-    let mut all = [first; 16];
-    let mut i = 0;
-    while i < 16 {
-        all[i] = list[i];
-        i += 1;
-    }
+    let mut all = [list[0]; 16];
+    all.copy_from_slice(&list[..16]);
     all
 }
 
@@ -152,13 +136,9 @@ fn sixteen(list: [Waiting; 17]) -> [Waiting; 16]
 fn with_sixteen(list: [Waiting; 17], all: [Waiting; 16]) -> [Waiting; 17]
     ensures { result ≡ all ++ drop 16 list }
 {
-    let mut l = list;
-    let mut i = 0;
-    while i < 16 {
-        l[i] = all[i];
-        i += 1;
-    }
-    l
+    let mut next = list;
+    next[..16].copy_from_slice(&all);
+    next
 }
 
 pub fn send_can_frame(h: Host, frame: CanFrame, class: TxClass, owner: &[u8]) -> Sent
@@ -166,15 +146,16 @@ pub fn send_can_frame(h: Host, frame: CanFrame, class: TxClass, owner: &[u8]) ->
 {
     let list = h.list;
     if h.lent == 16 {
-        let all = sixteen(list);
-        let s = gate_queue::send_sixteen(h.gate, all, frame, class, owner);
-        let left = s.all;
-        let list = with_sixteen(list, left);
-        let outcome = s.outcome;
-        return Sent { outcome, list };
+        let s = gate_queue::send_sixteen(h.gate, sixteen(list), frame, class, owner);
+        let list = with_sixteen(list, s.all);
+        Sent {
+            outcome: s.outcome,
+            list,
+        }
+    } else {
+        let outcome = gate_queue::send_none(h.gate, frame, class, owner);
+        Sent { outcome, list }
     }
-    let outcome = gate_queue::send_none(h.gate, frame, class, owner);
-    Sent { outcome, list }
 }
 
 pub fn serve_can_frames(h: Host, turns: u32, clock: u64) -> Served
@@ -182,13 +163,11 @@ pub fn serve_can_frames(h: Host, turns: u32, clock: u64) -> Served
 {
     let list = h.list;
     if h.lent == 16 {
-        let all = sixteen(list);
-        let s = gate_queue::serve_sixteen(h.gate, all, turns, clock);
-        let left = s.all;
-        let list = with_sixteen(list, left);
-        let ran = s.ran;
-        return Served { ran, list };
+        let s = gate_queue::serve_sixteen(h.gate, sixteen(list), turns, clock);
+        let list = with_sixteen(list, s.all);
+        Served { ran: s.ran, list }
+    } else {
+        let ran = gate_queue::serve_none(h.gate);
+        Served { ran, list }
     }
-    let ran = gate_queue::serve_none(h.gate);
-    Served { ran, list }
 }
