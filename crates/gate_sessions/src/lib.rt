@@ -18,14 +18,13 @@ pub fn new_gate(settings: Settings, methods: [Method; 8], count: usize) -> Outco
 }
 
 // This car's list is full without the session's phone.
+#[tactic(auto, unfolding(state::specs::View::view))]
 fn full_for(g: Gate) -> bool
     ensures { result ≡ full_for (view g) }
 {
-    let store = g.phones.store;
-    let session = g.core.validation.session;
-    let car = session.car;
-    let phone = session.phone;
-    validations::is_full(store, car, phone)
+    let car = g.core.validation.session.car;
+    let phone = g.core.validation.session.phone;
+    validations::is_full(g.phones.store, car, phone)
 }
 
 // 25 first: nothing else is looked at on a gate out of range.
@@ -41,9 +40,10 @@ fn started(
     ensures { result ≡ cond fits (start core phone.now method.now clock lent gives) (out_of_range core) }
 {
     if fits {
-        return start::start_validation(core, phone, method, clock, lent, gives);
+        start::start_validation(core, phone, method, clock, lent, gives)
+    } else {
+        outcomes::out_of_range(core)
     }
-    outcomes::out_of_range(core)
 }
 
 // `random`: lent random bytes; what is given depends on them only if the start comes to its draw.
@@ -51,63 +51,53 @@ pub fn start_validation(g: Gate, phone: &[u8], method: &[u8], clock: u64, random
     ensures { given result ≡ step g (start_validation phone.now method.now clock random.now) }
 {
     let drawn = draw::draw(random, g.core.settings.digits);
-    let fresh = drawn.code;
     let fits = range::in_range(g);
-    let core = g.core;
-    let said = started(fits, core, phone, method, clock, 0 < random.len(), drawn.ok);
-    outcomes::drew(g, fresh, said)
+    let lent = 0 < random.len();
+    let said = started(fits, g.core, phone, method, clock, lent, drawn.is_some());
+    outcomes::drew(g, drawn.unwrap_or([0; 9]), said)
 }
 
 // 25 first.
+#[tactic(auto, unfolding(outcomes::specs::Served::ended_on, state::specs::View::view))]
 fn submitted(g: Gate, phone: &[u8], typed: &[u8], clock: u64) -> Ended
     ensures { result ≡ ended_on (view g) (submit g.core phone.now clock (is_text typed.now) (right g.code g.core.settings.digits typed.now) (full_for (view g))) }
 {
     if range::in_range(g) {
-        let core = g.core;
-        let held = g.code;
         let text = text::is_text(typed);
-        let right = text::is_right(held, core.settings.digits, typed);
+        let right = text::is_right(g.code, g.core.settings.digits, typed);
         let full = full_for(g);
-        return submit::submit_validation_code(core, phone, clock, text, right, full);
+        submit::submit_validation_code(g.core, phone, clock, text, right, full)
+    } else {
+        validation::ends::unvalidated(outcomes::out_of_range(g.core))
     }
-    let core = g.core;
-    let said = outcomes::out_of_range(core);
-    validation::ends::unvalidated(said)
 }
 
 pub fn submit_validation_code(g: Gate, phone: &[u8], typed: &[u8], clock: u64) -> Outcome
     ensures { given result ≡ step g (submit_validation_code phone.now typed.now clock) }
 {
-    let e = submitted(g, phone, typed, clock);
-    outcomes::ended(g, e)
+    outcomes::ended(g, submitted(g, phone, typed, clock))
 }
 
 pub fn cancel_validation(g: Gate, phone: &[u8], clock: u64) -> Outcome
     ensures { given result ≡ step g (on_session (cancel_validation phone.now clock)) }
 {
-    let core = g.core;
-    let said = complete::cancel_validation(core, phone, clock);
+    let said = complete::cancel_validation(g.core, phone, clock);
     let e = validation::ends::unvalidated(said);
-    let told = outcomes::ended_on(g, e);
-    outcomes::ended(g, told)
+    outcomes::ended(g, outcomes::ended_on(g, e))
 }
 
 pub fn complete_validation_action_at(g: Gate, number: u32, clock: u64) -> Outcome
     ensures { given result ≡ step g (on_session (complete_validation_action number clock)) }
 {
-    let core = g.core;
     let full = full_for(g);
-    let e = complete::complete_validation_action_at(core, number, clock, full);
-    let told = outcomes::ended_on(g, e);
-    outcomes::ended(g, told)
+    let e = complete::complete_validation_action_at(g.core, number, clock, full);
+    outcomes::ended(g, outcomes::ended_on(g, e))
 }
 
 pub fn tick_validation(g: Gate, clock: u64) -> Outcome
     ensures { given result ≡ step g (on_session (tick_validation clock)) }
 {
-    let core = g.core;
-    let said = validation::ends::tick_validation(core, clock);
+    let said = validation::ends::tick_validation(g.core, clock);
     let e = validation::ends::unvalidated(said);
-    let told = outcomes::ended_on(g, e);
-    outcomes::ended(g, told)
+    outcomes::ended(g, outcomes::ended_on(g, e))
 }

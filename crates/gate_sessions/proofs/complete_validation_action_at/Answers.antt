@@ -9,4 +9,4 @@ pub returns : goal.returns
 unfolding ended says
 returns c =
     let a = c.args in
-    by_session a.g (complete_validation_action a.number a.clock) _ _ _ (c.complete_validation_action_at-e.ensures ∙ ap (λ (full : Bool). complete a.g.core a.number a.clock full) c.full_for-full.ensures) c.ended_on-told.ensures c.ended.ensures
+    by_session a.g (complete_validation_action a.number a.clock) _ _ _ (c.complete_validation_action_at-e.ensures ∙ ap (λ (full : Bool). complete a.g.core a.number a.clock full) c.full_for-full.ensures) c.ended_on.ensures c.ended.ensures

@@ -5,4 +5,4 @@ use Rattle.gate_sessions.proofs.submit_validation_code.Goals as goal
 
 pub returns : goal.returns
 unfolding step says view
-returns c = by_ended c.args.g _ _ _ c.submitted-e.ensures c.ended.ensures
+returns c = by_ended c.args.g _ _ _ c.submitted.ensures c.ended.ensures

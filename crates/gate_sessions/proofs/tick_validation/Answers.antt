@@ -8,4 +8,4 @@ pub returns : goal.returns
 unfolding ended says
 returns c =
     let a = c.args in
-    by_session a.g (tick_validation a.clock) _ _ _ (c.unvalidated-e.ensures ∙ ap unvalidated c.tick_validation-said.ensures) c.ended_on-told.ensures c.ended.ensures
+    by_session a.g (tick_validation a.clock) _ _ _ (c.unvalidated-e.ensures ∙ ap unvalidated c.tick_validation-said.ensures) c.ended_on.ensures c.ended.ensures
