@@ -18,112 +18,98 @@ use state::{Gate, Listed, Outcome};
 pub fn add_paired_phone(g: Gate, id: &[u8]) -> Outcome
     ensures { given result ≡ step g (on_lists (add_paired_phone id.now)) }
 {
-    let phones = g.phones;
-    let x = pairing::add_paired_phone(phones, g.core.settings.bonded, id);
-    let told = outcomes::listed_on(g, x);
-    outcomes::listed(g, told)
+    let x = pairing::add_paired_phone(g.phones, g.core.settings.bonded, id);
+    outcomes::listed(g, outcomes::listed_on(g, x))
 }
 
 pub fn remove_paired_phone(g: Gate, id: &[u8]) -> Outcome
     ensures { given result ≡ step g (on_lists (remove_paired_phone id.now)) }
 {
-    let phones = g.phones;
-    let x = pairing::remove_paired_phone(phones, id);
-    let told = outcomes::listed_on(g, x);
-    outcomes::listed(g, told)
+    let x = pairing::remove_paired_phone(g.phones, id);
+    outcomes::listed(g, outcomes::listed_on(g, x))
 }
 
 pub fn clear_paired_phones(g: Gate) -> Outcome
     ensures { given result ≡ step g (on_lists clear_paired_phones) }
 {
-    let phones = g.phones;
-    let x = pairing::clear_paired_phones(phones);
-    let told = outcomes::listed_on(g, x);
-    outcomes::listed(g, told)
+    let x = pairing::clear_paired_phones(g.phones);
+    outcomes::listed(g, outcomes::listed_on(g, x))
 }
 
 pub fn forget_phone_validation(g: Gate, id: &[u8]) -> Outcome
     ensures { given result ≡ step g (on_lists (forget_phone_validation id.now)) }
 {
-    let phones = g.phones;
-    let x = forget_validations::forget_phone_validation(phones, id);
-    let told = outcomes::listed_on(g, x);
-    outcomes::listed(g, told)
+    let x = forget_validations::forget_phone_validation(g.phones, id);
+    outcomes::listed(g, outcomes::listed_on(g, x))
 }
 
 pub fn prune_phone_validations(g: Gate) -> Outcome
     ensures { given result ≡ step g (on_lists prune_phone_validations) }
 {
-    let phones = g.phones;
-    let x = forget_validations::prune_phone_validations(phones);
-    let told = outcomes::listed_on(g, x);
-    outcomes::listed(g, told)
+    let x = forget_validations::prune_phone_validations(g.phones);
+    outcomes::listed(g, outcomes::listed_on(g, x))
 }
 
 // 25 first: nothing else is looked at on a gate out of range.
+#[tactic(auto, unfolding(outcomes::specs::Served::listed_on))]
 fn restored(g: Gate, bytes: &[u8]) -> Listed
     ensures { result ≡ listed_on g (listed_in g.phones (restore bytes.now)) }
 {
-    let phones = g.phones;
     if range::in_range(g) {
-        return restore_validations::restore_phone_validations(phones, bytes);
+        restore_validations::restore_phone_validations(g.phones, bytes)
+    } else {
+        outcomes::lists_out_of_range(g.phones)
     }
-    outcomes::lists_out_of_range(phones)
 }
 
 pub fn restore_phone_validations(g: Gate, bytes: &[u8]) -> Outcome
     ensures { given result ≡ step g (on_lists (restore_phone_validations bytes.now)) }
 {
-    let x = restored(g, bytes);
-    outcomes::listed(g, x)
+    outcomes::listed(g, restored(g, bytes))
 }
 
 // An empty id is none.
 pub fn set_ble_peer(g: Gate, id: &[u8]) -> Outcome
     ensures { given result ≡ step g (on_core (set_ble_peer id.now)) }
 {
-    let core = g.core;
-    let said = pairing::set_ble_peer(core, id);
-    let told = outcomes::said_on(g, said);
-    outcomes::settled(g, told)
+    let said = pairing::set_ble_peer(g.core, id);
+    outcomes::settled(g, outcomes::said_on(g, said))
 }
 
 // 25 first.
+#[tactic(auto, unfolding(outcomes::specs::Served::kept_on, state::specs::View::view))]
 fn opened(g: Gate) -> Kept
     ensures { Steps.Says result (kept_on (view g) (opening (cars_of g.phones.store))) }
 {
     if range::in_range(g) {
-        let store = g.phones.store;
-        return save::open_phone_validations_save(store);
+        save::open_phone_validations_save(g.phones.store)
+    } else {
+        outcomes::save_out_of_range(g.save)
     }
-    let save = g.save;
-    outcomes::save_out_of_range(save)
 }
 
 // Fixes the record of this moment, to be taken piece by piece; a save that is unfinished is dropped.
 pub fn open_phone_validations_save(g: Gate) -> Outcome
     ensures { given result ≡ step g (on_save open_phone_validations_save) }
 {
-    let x = opened(g);
-    outcomes::kept(g, x)
+    outcomes::kept(g, opened(g))
 }
 
 // 25 first, and the lent memory stays as it is.
+#[tactic(auto, unfolding(outcomes::specs::Served::kept_on, state::specs::View::view))]
 fn taken(g: Gate, out: &mut [u8]) -> Kept
     ensures { SaysOf result out.old out.new (kept_on (view g) (taking g.save out.old)) }
 {
     if range::in_range(g) {
-        let save = g.save;
-        return save::take_phone_validations_save(save, out);
+        save::take_phone_validations_save(g.save, out)
+    } else {
+        outcomes::save_out_of_range(g.save)
     }
-    let save = g.save;
-    outcomes::save_out_of_range(save)
 }
 
 // Hands out the next bytes of the save, as many as `out` holds; what lies past them there stays.
 pub fn take_phone_validations_save(g: Gate, out: &mut [u8]) -> Outcome
     ensures { lent_given result out.new ≡ step g (on_save (take_phone_validations_save out.old)) }
 {
-    let x = taken(g, out);
-    outcomes::kept(g, x)
+    outcomes::kept(g, taken(g, out))
 }

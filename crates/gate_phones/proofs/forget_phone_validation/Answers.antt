@@ -6,4 +6,4 @@ pub returns : goal.returns
 unfolding listing says
 returns c =
     let a = c.args in
-    by_lists a.g (forget_phone_validation a.id.now) _ _ _ c.forget_phone_validation-x.ensures c.listed_on-told.ensures c.listed.ensures
+    by_lists a.g (forget_phone_validation a.id.now) _ _ _ c.forget_phone_validation-x.ensures c.listed_on.ensures c.listed.ensures

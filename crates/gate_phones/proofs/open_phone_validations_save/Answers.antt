@@ -4,4 +4,4 @@ use Rattle.gate_phones.proofs.open_phone_validations_save.Goals as goal
 
 pub returns : goal.returns
 unfolding saving
-returns c = by_save c.args.g open_phone_validations_save _ _ c.opened-x.ensures c.kept.ensures
+returns c = by_save c.args.g open_phone_validations_save _ _ c.opened.ensures c.kept.ensures

@@ -6,4 +6,4 @@ pub returns : goal.returns
 unfolding listing says
 returns c =
     let a = c.args in
-    by_lists a.g prune_phone_validations _ _ _ c.prune_phone_validations-x.ensures c.listed_on-told.ensures c.listed.ensures
+    by_lists a.g prune_phone_validations _ _ _ c.prune_phone_validations-x.ensures c.listed_on.ensures c.listed.ensures

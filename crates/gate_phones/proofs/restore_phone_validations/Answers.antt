@@ -7,4 +7,4 @@ pub returns : goal.returns
 unfolding listing
 returns c =
     let a = c.args in
-    by_lists a.g (restore_phone_validations a.bytes.now) _ _ _ refl c.restored-x.ensures c.listed.ensures
+    by_lists a.g (restore_phone_validations a.bytes.now) _ _ _ refl c.restored.ensures c.listed.ensures

@@ -6,4 +6,4 @@ pub returns : goal.returns
 unfolding said says
 returns c =
     let a = c.args in
-    by_core a.g (set_ble_peer a.id.now) _ _ _ c.set_ble_peer-said.ensures c.said_on-told.ensures c.settled.ensures
+    by_core a.g (set_ble_peer a.id.now) _ _ _ c.set_ble_peer-said.ensures c.said_on.ensures c.settled.ensures

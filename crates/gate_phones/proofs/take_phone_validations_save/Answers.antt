@@ -6,5 +6,5 @@ pub returns : goal.returns
 unfolding saving
 returns c =
     let a = c.args in
-    let t = c.taken-x.ensures in
+    let t = c.taken.ensures in
     rw (t.1, lent_as_lem bytes a.out.now _) (by_save a.g (take_phone_validations_save a.out.now) _ _ t.0 c.kept.ensures)
