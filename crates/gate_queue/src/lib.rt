@@ -30,30 +30,18 @@ pub struct RanOn {
 
 // ---- sending
 
-fn sent_outcome(d: SentOn) -> Outcome
-    ensures { result ≡ d.outcome }
-{
-    d.outcome
-}
-
-fn sent_list(d: SentOn) -> [Waiting; 16]
-    ensures { result ≡ d.all }
-{
-    d.all
-}
-
 fn sent_on(g: Gate, x: Sent) -> SentOn
     ensures { result ≡ sending_of g x }
 {
-    let answer = x.answer;
-    let core = g.core;
-    let queue = x.queue;
-    let outcome = outcomes::queued(g, answer, core, queue);
     let all = x.all;
-    SentOn { outcome, all }
+    SentOn {
+        outcome: outcomes::queued(g, x.answer, g.core, x.queue),
+        all,
+    }
 }
 
 // 25 first.
+#[tactic(auto, unfolding(crate::specs::Given::sending_on, state::specs::View::view))]
 pub fn send_sixteen(
     g: Gate,
     all: [Waiting; 16],
@@ -63,26 +51,25 @@ pub fn send_sixteen(
 ) -> SentOn
     ensures { result ≡ sent_of g all frame class owner.now }
 {
-    let queue = g.queue;
     if range::in_range(g) {
-        let x = can_queue::send_can_frame(queue, all, frame, class, owner);
-        return sent_on(g, x);
+        let x = can_queue::send_can_frame(g.queue, all, frame, class, owner);
+        sent_on(g, x)
+    } else {
+        sent_on(g, can_queue::unsent(g.queue, all, Answer::BadSettings))
     }
-    let x = can_queue::unsent(queue, all, Answer::BadSettings);
-    sent_on(g, x)
 }
 
 // 25 first; a list of another length takes no frame.
+#[tactic(auto, unfolding(crate::specs::Given::sending_on, state::specs::View::view))]
 pub fn send_none(g: Gate, frame: CanFrame, class: TxClass, owner: &[u8]) -> Outcome
     ensures { result ≡ unsent_of g frame class owner.now }
 {
-    let core = g.core;
-    let queue = g.queue;
     if range::in_range(g) {
-        let answer = can_queue::refused(queue, frame, class, owner);
-        return outcomes::queued(g, answer, core, queue);
+        let answer = can_queue::refused(g.queue, frame, class, owner);
+        outcomes::queued(g, answer, g.core, g.queue)
+    } else {
+        outcomes::queued(g, Answer::BadSettings, g.core, g.queue)
     }
-    outcomes::queued(g, Answer::BadSettings, core, queue)
 }
 
 // Puts a frame behind those that wait.
@@ -96,69 +83,60 @@ pub fn send_can_frame(
     ensures { lent_records result list.new ≡ step g (on_queue (send_can_frame list.old frame class owner.now)) }
 {
     if list.len() == 16 {
-        let all = waiting_list::load(list);
-        let out = send_sixteen(g, all, frame, class, owner);
-        let left = sent_list(out);
-        waiting_list::store(list, left);
-        return sent_outcome(out);
+        let out = send_sixteen(g, waiting_list::load(list), frame, class, owner);
+        waiting_list::store(list, out.all);
+        out.outcome
+    } else {
+        send_none(g, frame, class, owner)
     }
-    send_none(g, frame, class, owner)
 }
 
 // ---- serving
 
-fn ran_given(d: RanOn) -> Ran
-    ensures { result ≡ d.ran }
-{
-    d.ran
-}
-
-fn ran_list(d: RanOn) -> [Waiting; 16]
-    ensures { result ≡ d.all }
-{
-    d.all
-}
-
 fn ran_on(g: Gate, answer: Answer, x: Run) -> RanOn
     ensures { result ≡ ran_of g answer x }
 {
-    let core = x.core;
-    let queue = x.queue;
-    let outcome = outcomes::queued(g, answer, core, queue);
-    let report = x.report;
-    let ran = Ran { outcome, report };
     let all = x.all;
-    RanOn { ran, all }
+    RanOn {
+        ran: Ran {
+            outcome: outcomes::queued(g, answer, x.core, x.queue),
+            report: x.report,
+        },
+        all,
+    }
 }
 
 // 25 first, with no turn.
+#[tactic(auto, unfolding(crate::specs::Given::served_of, state::specs::View::view))]
 pub fn serve_sixteen(g: Gate, all: [Waiting; 16], turns: u32, clock: u64) -> RanOn
     ensures { result ≡ served_of g all turns clock }
 {
-    let core = g.core;
-    let queue = g.queue;
     if range::in_range(g) {
-        let phones = g.phones;
-        let x = can_turns::serve_can_frames(core, phones, queue, all, turns, clock);
-        return ran_on(g, Answer::Done, x);
+        let x = can_turns::serve_can_frames(g.core, g.phones, g.queue, all, turns, clock);
+        ran_on(g, Answer::Done, x)
+    } else {
+        ran_on(
+            g,
+            Answer::BadSettings,
+            can_turns::no_turn(g.core, g.queue, all),
+        )
     }
-    let x = can_turns::no_turn(core, queue, all);
-    ran_on(g, Answer::BadSettings, x)
 }
 
 // 25 first; a list of another length takes no turns.
+#[tactic(auto, unfolding(state::specs::View::view))]
 pub fn serve_none(g: Gate) -> Ran
     ensures { result ≡ unserved_of g }
 {
-    let core = g.core;
-    let queue = g.queue;
-    let report = can_turns::no_report();
-    if range::in_range(g) {
-        let outcome = outcomes::queued(g, Answer::Done, core, queue);
-        return Ran { outcome, report };
+    let answer = if range::in_range(g) {
+        Answer::Done
+    } else {
+        Answer::BadSettings
+    };
+    Ran {
+        outcome: outcomes::queued(g, answer, g.core, g.queue),
+        report: can_turns::no_report(),
     }
-    let outcome = outcomes::queued(g, Answer::BadSettings, core, queue);
-    Ran { outcome, report }
 }
 
 // Takes turns, as many as given or as frames wait, and reports each frame with its yes or no.
@@ -166,11 +144,10 @@ pub fn serve_can_frames(g: Gate, list: &mut [Waiting], turns: u32, clock: u64) -
     ensures { ran_given result list.new ≡ step g (on_queue (serve_can_frames list.old turns clock)) }
 {
     if list.len() == 16 {
-        let all = waiting_list::load(list);
-        let out = serve_sixteen(g, all, turns, clock);
-        let left = ran_list(out);
-        waiting_list::store(list, left);
-        return ran_given(out);
+        let out = serve_sixteen(g, waiting_list::load(list), turns, clock);
+        waiting_list::store(list, out.all);
+        out.ran
+    } else {
+        serve_none(g)
     }
-    serve_none(g)
 }

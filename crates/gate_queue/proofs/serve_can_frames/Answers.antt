@@ -1,5 +1,5 @@
+use Rattle.std.proofs.Common.{refl, ◌∙◌, ap, length}
 use borrow.Author.Tests.{ne_eqb}
-use Rattle.std.proofs.Common.{◌∙◌, ap, length}
 use Rattle.state.specs.declared.Ran.{Ran}
 use Rattle.definition.specs.Gate.{ran_given}
 use Rattle.gate_queue.proofs.Laws.{serves_by, serves_none}
@@ -8,9 +8,9 @@ use Rattle.gate_queue.proofs.serve_can_frames.Goals as goal
 pub returns-then-list-eq16 : goal.returns-then-list-eq16
 returns-then-list-eq16 c =
     let a = c.args in
-    serves_by a.g a.list.now a.turns a.clock _ _ _ _ c.load-all.ensures c.serve_sixteen-out.ensures c.ran_given.ensures (c.store.ensures ∙ c.ran_list-left.ensures)
+    serves_by a.g a.list.now a.turns a.clock _ _ _ _ c.load.ensures c.serve_sixteen-out.ensures refl c.store.ensures
 
-pub returns : goal.returns
-returns c =
+pub returns-else-list-eq16 : goal.returns-else-list-eq16
+returns-else-list-eq16 c =
     let a = c.args in
     ap (λ (o : Ran). ran_given o a.list.now) c.serve_none.ensures ∙ serves_none a.g a.list.now a.turns a.clock (ne_eqb (length a.list.now) 16 c.if-list-eq16.false)
