@@ -12,6 +12,7 @@ ghost use Rattle.gate_frames.specs.Owner.{of_class};
 use frames::{CanFrame, ProbeFrame, TxClass};
 use state::{Gate, Outcome, Said};
 
+#[tactic(auto, using(outcomes::proofs::Laws::by_core), unfolding(definition::specs::Gate::said, definition::specs::Gate::says))]
 pub fn open_identity_probe(
     g: Gate,
     bus: u8,
@@ -21,19 +22,16 @@ pub fn open_identity_probe(
 ) -> Outcome
     ensures { given result ≡ step g (on_core (open_identity_probe bus frames count clock)) }
 {
-    let core = g.core;
-    let said = can_probe::open_identity_probe(core, bus, frames, count, clock);
-    let told = outcomes::said_on(g, said);
-    outcomes::settled(g, told)
+    let said = can_probe::open_identity_probe(g.core, bus, frames, count, clock);
+    outcomes::settled(g, outcomes::said_on(g, said))
 }
 
+#[tactic(auto, using(outcomes::proofs::Laws::by_core), unfolding(definition::specs::Gate::said, definition::specs::Gate::says))]
 pub fn close_identity_probe(g: Gate) -> Outcome
     ensures { given result ≡ step g (on_core close_identity_probe) }
 {
-    let core = g.core;
-    let said = can_probe::close_identity_probe(core);
-    let told = outcomes::said_on(g, said);
-    outcomes::settled(g, told)
+    let said = can_probe::close_identity_probe(g.core);
+    outcomes::settled(g, outcomes::said_on(g, said))
 }
 
 // Whether the owner of a command is validated; a platform frame has none.
@@ -43,9 +41,7 @@ fn owner_validated(g: Gate, class: TxClass, owner: &[u8]) -> bool
     match class {
         TxClass::Platform => false,
         TxClass::Command => {
-            let identity = g.core.policy.identity;
-            let phones = g.phones;
-            phone_trust::is_phone_validated(identity, phones, owner)
+            phone_trust::is_phone_validated(g.core.policy.identity, g.phones, owner)
         }
     }
 }
@@ -55,12 +51,11 @@ fn allowed(g: Gate, bus: u8, frame: CanFrame, class: TxClass, owner: &[u8], cloc
     ensures { result ≡ said_on (view g) (said g.core (lists_in g.phones) (allow_can_tx bus frame class owner.now clock)) }
 {
     if range::in_range(g) {
-        let core = g.core;
         let validated = owner_validated(g, class, owner);
-        return can_tx::allow_can_tx(core, bus, frame, class, validated, clock);
+        can_tx::allow_can_tx(g.core, bus, frame, class, validated, clock)
+    } else {
+        outcomes::out_of_range(g.core)
     }
-    let core = g.core;
-    outcomes::out_of_range(core)
 }
 
 // `owner` is the phone that a command is for; for a platform frame it is not looked at.
@@ -74,60 +69,53 @@ pub fn allow_can_tx(
 ) -> Outcome
     ensures { given result ≡ step g (on_core (allow_can_tx bus frame class owner.now clock)) }
 {
-    let said = allowed(g, bus, frame, class, owner, clock);
-    outcomes::settled(g, said)
+    outcomes::settled(g, allowed(g, bus, frame, class, owner, clock))
 }
 
+#[tactic(auto, using(outcomes::proofs::Laws::by_core), unfolding(definition::specs::Gate::said, definition::specs::Gate::says))]
 pub fn heard_can_frame(g: Gate, bus: u8, clock: u64) -> Outcome
     ensures { given result ≡ step g (on_core (heard_can_frame bus clock)) }
 {
-    let core = g.core;
-    let said = can_probe::heard_can_frame(core, bus, clock);
-    let told = outcomes::said_on(g, said);
-    outcomes::settled(g, told)
+    let said = can_probe::heard_can_frame(g.core, bus, clock);
+    outcomes::settled(g, outcomes::said_on(g, said))
 }
 
+#[tactic(auto, using(outcomes::proofs::Laws::by_core), unfolding(definition::specs::Gate::said, definition::specs::Gate::says))]
 pub fn note_platform_id(g: Gate, number: u32) -> Outcome
     ensures { given result ≡ step g (on_core (note_platform_id number)) }
 {
-    let core = g.core;
-    let said = car_identity::note_platform_id(core, number);
-    let told = outcomes::said_on(g, said);
-    outcomes::settled(g, told)
+    let said = car_identity::note_platform_id(g.core, number);
+    outcomes::settled(g, outcomes::said_on(g, said))
 }
 
+#[tactic(auto, using(outcomes::proofs::Laws::by_core), unfolding(definition::specs::Gate::said, definition::specs::Gate::says))]
 pub fn note_can_logging(g: Gate, on: bool) -> Outcome
     ensures { given result ≡ step g (on_core (note_can_logging on)) }
 {
-    let core = g.core;
-    let said = can::note_can_logging(core, on);
-    let told = outcomes::said_on(g, said);
-    outcomes::settled(g, told)
+    let said = can::note_can_logging(g.core, on);
+    outcomes::settled(g, outcomes::said_on(g, said))
 }
 
+#[tactic(auto, using(outcomes::proofs::Laws::by_core), unfolding(definition::specs::Gate::said, definition::specs::Gate::says))]
 pub fn note_can_fd_bus(g: Gate, bus: u8, on: bool) -> Outcome
     ensures { given result ≡ step g (on_core (note_can_fd_bus bus on)) }
 {
-    let core = g.core;
-    let said = can::note_can_fd_bus(core, bus, on);
-    let told = outcomes::said_on(g, said);
-    outcomes::settled(g, told)
+    let said = can::note_can_fd_bus(g.core, bus, on);
+    outcomes::settled(g, outcomes::said_on(g, said))
 }
 
+#[tactic(auto, using(outcomes::proofs::Laws::by_core), unfolding(definition::specs::Gate::said, definition::specs::Gate::says))]
 pub fn note_method_available(g: Gate, place: usize, on: bool) -> Outcome
     ensures { given result ≡ step g (on_core (note_method_available place on)) }
 {
-    let core = g.core;
-    let said = methods::note_method_available(core, place, on);
-    let told = outcomes::said_on(g, said);
-    outcomes::settled(g, told)
+    let said = methods::note_method_available(g.core, place, on);
+    outcomes::settled(g, outcomes::said_on(g, said))
 }
 
+#[tactic(auto, using(outcomes::proofs::Laws::by_core), unfolding(definition::specs::Gate::said, definition::specs::Gate::says))]
 pub fn note_method_can_continue(g: Gate, place: usize, on: bool) -> Outcome
     ensures { given result ≡ step g (on_core (note_method_can_continue place on)) }
 {
-    let core = g.core;
-    let said = methods::note_method_can_continue(core, place, on);
-    let told = outcomes::said_on(g, said);
-    outcomes::settled(g, told)
+    let said = methods::note_method_can_continue(g.core, place, on);
+    outcomes::settled(g, outcomes::said_on(g, said))
 }

@@ -19,6 +19,6 @@ returns-then-in_range c =
     in
     rw (← c.in_range.ensures, c.if-in_range.true) o
 
-pub returns : goal.returns
+pub returns-else-in_range : goal.returns-else-in_range
 unfolding said said_on view
-returns c = rw (← c.in_range.ensures, c.if-in_range.false, ← c.out_of_range.ensures)
+returns-else-in_range c = rw (← c.in_range.ensures, c.if-in_range.false, ← c.out_of_range.ensures)
