@@ -15,75 +15,55 @@ fn foreseen(g: Gate, x: Listed) -> PreviewAnswer
     ensures { Foresees g x result }
 {
     if range::in_range(g) {
-        let answer = x.answer;
-        let list = x.phones.paired;
-        let paired = phones::canonical(list);
-        let cars = x.phones.store;
-        let store = validations::canonical(cars);
-        let stored = validations::record_for(cars);
-        return PreviewAnswer {
-            answer,
-            paired,
-            store,
-            bytes: stored.len,
-        };
-    }
-    let paired = phones::empty_list();
-    let store = validations::no_validations();
-    PreviewAnswer {
-        answer: Answer::BadSettings,
-        paired,
-        store,
-        bytes: 0,
+        PreviewAnswer {
+            answer: x.answer,
+            paired: phones::canonical(x.phones.paired),
+            store: validations::canonical(x.phones.store),
+            bytes: validations::record_for(x.phones.store).len,
+        }
+    } else {
+        PreviewAnswer {
+            answer: Answer::BadSettings,
+            paired: phones::empty_list(),
+            store: validations::no_validations(),
+            bytes: 0,
+        }
     }
 }
 
 pub fn preview_remove_paired_phone(g: Gate, id: &[u8]) -> PreviewAnswer
     ensures { answered g (previewed result) ≡ step g (ask (preview_remove_paired_phone id.now)) }
 {
-    let phones = g.phones;
-    let x = pairing::remove_paired_phone(phones, id);
-    foreseen(g, x)
+    foreseen(g, pairing::remove_paired_phone(g.phones, id))
 }
 
 pub fn preview_forget_phone_validation(g: Gate, id: &[u8]) -> PreviewAnswer
     ensures { answered g (previewed result) ≡ step g (ask (preview_forget_phone_validation id.now)) }
 {
-    let phones = g.phones;
-    let x = forget_validations::forget_phone_validation(phones, id);
-    foreseen(g, x)
+    foreseen(g, forget_validations::forget_phone_validation(g.phones, id))
 }
 
 pub fn preview_clear_paired_phones(g: Gate) -> PreviewAnswer
     ensures { answered g (previewed result) ≡ step g (ask preview_clear_paired_phones) }
 {
-    let phones = g.phones;
-    let x = pairing::clear_paired_phones(phones);
-    foreseen(g, x)
+    foreseen(g, pairing::clear_paired_phones(g.phones))
 }
 
 pub fn preview_prune_phone_validations(g: Gate) -> PreviewAnswer
     ensures { answered g (previewed result) ≡ step g (ask preview_prune_phone_validations) }
 {
-    let phones = g.phones;
-    let x = forget_validations::prune_phone_validations(phones);
-    foreseen(g, x)
+    foreseen(g, forget_validations::prune_phone_validations(g.phones))
 }
 
 // Approving touches no list (W-207), so the lists are told as they are, also with 2.
 pub fn preview_approve_can_read_write(g: Gate) -> PreviewAnswer
     ensures { answered g (previewed result) ≡ step g (ask preview_approve_can_read_write) }
 {
-    let core = g.core;
-    let said = can_access::approve_can_read_write(core);
-    let answer = said.answer;
-    let raised = state::replies::nothing_raised();
-    let phones = g.phones;
     let x = Listed {
-        answer,
-        raised,
+        answer: can_access::approve_can_read_write(g.core).answer,
+        raised: state::replies::nothing_raised(),
         stores: false,
-        phones,
+        phones: g.phones,
     };
     foreseen(g, x)
 }

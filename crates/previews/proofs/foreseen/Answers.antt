@@ -6,8 +6,8 @@ pub returns-then-in_range : goal.returns-then-in_range
 unfolding preview_of
 returns-then-in_range c =
     λ d e. let a = c.args in
-    rw (c.canonical-store.ensures, c.canonical-paired.ensures, c.record_for-stored.ensures, ← c.in_range.ensures, c.if-in_range.true) (foreseen_laid a.g d a.x e)
+    rw (c.canonical-then-in_range.ensures, c.canonical.ensures, c.record_for.ensures, ← c.in_range.ensures, c.if-in_range.true) (foreseen_laid a.g d a.x e)
 
-pub returns : goal.returns
+pub returns-else-in_range : goal.returns-else-in_range
 unfolding preview_of
-returns c = λ d e. rw (c.no_validations-store.ensures, c.empty_list-paired.ensures, ← c.in_range.ensures, c.if-in_range.false)
+returns-else-in_range c = λ d e. rw (c.no_validations.ensures, c.empty_list.ensures, ← c.in_range.ensures, c.if-in_range.false)

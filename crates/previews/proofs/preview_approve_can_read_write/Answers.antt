@@ -9,4 +9,4 @@ pub returns : goal.returns
 unfolding answer_to view lists_stay
 returns c =
     let a = c.args in
-    by_query a.g preview_approve_can_read_write _ (c.foreseen.ensures (lists_stay nothing_raised (approve a.g.core).answer) (rw (c.nothing_raised-raised.ensures, c.approve_can_read_write-said.ensures)))
+    by_query a.g preview_approve_can_read_write _ (c.foreseen.ensures (lists_stay nothing_raised (approve a.g.core).answer) (rw (c.nothing_raised.ensures, c.approve_can_read_write.ensures)))

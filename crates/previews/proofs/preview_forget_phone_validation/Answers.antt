@@ -5,4 +5,4 @@ use Rattle.previews.proofs.preview_forget_phone_validation.Goals as goal
 
 pub returns : goal.returns
 unfolding answer_to view
-returns c = let a = c.args in by_query a.g (preview_forget_phone_validation _) _ (c.foreseen.ensures _ c.forget_phone_validation-x.ensures)
+returns c = let a = c.args in by_query a.g (preview_forget_phone_validation _) _ (c.foreseen.ensures _ c.forget_phone_validation.ensures)
