@@ -1,10 +1,6 @@
 -- Laws of what stands at a place: in a function by arms, and in the lines of all kinds one behind the other.
-use mathlib.Core.Path.{◌≡◌, refl, ◌∙◌}
-use mathlib.Core.List.{List, [], ◌∷◌, ◌++◌, map}
-use Prim.Native.Nat.{ℕ, zero, suc, ◌-◌, ◌≤◌, ◌<◌}
-use native.Mathlib.Nat.{le_of_suc-le-suc, not-suc-le-zero}
-use native.Mathlib.Omega.{arith}
-use lib.ListN.{length, get_or, get_or-eq_default}
+use Rattle.std.proofs.Common.{◌≡◌, refl, ◌∙◌, List, [], ◌∷◌, ◌++◌, map, length, get_or, ℕ, zero, suc, ◌-◌, ◌≤◌, ◌<◌, le_of_suc-le-suc, not-suc-le-zero, arith}
+use Rattle.std.proofs.lemmas.List.{get_or_past}
 use Rattle.definition.specs.Gate.{ask, on_core, approve_can_read_write}
 use Rattle.answers.specs.Query.{is_can_read_only, can_read_write_approval}
 use Rattle.replay_items.specs.Bytes.{Bytes}
@@ -32,7 +28,7 @@ NoOther (x ∷ xs) n = Others (length xs) n
 pub else_first : {A : Type 0} (l : List A) (d : A) (n : ℕ) → get_or l 0 d ≡ d → NoOther l n → get_or l n d ≡ d
 else_first [] d n e t = refl
 else_first (x ∷ xs) d zero e t = e
-else_first (x ∷ xs) d (suc n) e t = get_or-eq_default xs d (past (length xs) n t)
+else_first (x ∷ xs) d (suc n) e t = get_or_past xs _ d (past (length xs) n t)
 
 -- in the first list, or behind it
 module _ {A : Type 0} (f : A → Line) where

@@ -1,29 +1,33 @@
--- The call that a line makes, by the number of its name and by its items. Each list is in the order of the rows of
+-- The call that a line makes, by the number of its name and by its items; of an item that is not there it gets 0, off, the
+-- platform's class and the like, but the table of names lets no such line through. Each list is in the order of the rows of
 -- replay_names/specs/Names.antt.
-use Rattle.std.specs.Prelude.{Bool, List, [], ◌∷◌, ◌++◌, map, ℕ, get_or}
+use Rattle.std.specs.Prelude.{Bool, false, List, [], ◌∷◌, ◌++◌, map, replicate, ℕ, get_or, unwrap_or}
 use Rattle.answers.specs.Query.{Query, is_can_read_only, can_read_only_reason, is_car_identity_confirmed, is_car_fingerprint_confirmed, can_read_write_approval, has_can_dev_write_lock, is_can_dev_write_unlocked, can_access_state, platform_id, is_can_logging, is_can_fd_bus, is_can_bus_read_only, is_can_bus_listen_only, is_phone_paired, paired_phone_count, list_paired_phones, ble_max_bonded_phones, is_phone_validated, car_has_validated_phone, phone_trust_level, ble_peer, encode_phone_validations, phone_access_state, validation_methods, session_for, current_validation_challenge, preview_remove_paired_phone, preview_forget_phone_validation, preview_clear_paired_phones, preview_prune_phone_validations, preview_approve_can_read_write}
 use Rattle.definition.specs.Gate.{Call, QueueCall, new_gate_call, start_validation, submit_validation_code, on_session, on_lists, on_save, on_core, ask}
 use Rattle.definition.specs.Gate.{cancel_validation, complete_validation_action, tick_validation, add_paired_phone, remove_paired_phone, clear_paired_phones, forget_phone_validation, prune_phone_validations, set_ble_peer, restore_phone_validations, open_phone_validations_save, take_phone_validations_save, send_can_frame, serve_can_frames, approve_can_read_write, revoke_can_read_write_approval, restore_can_read_write_approval, set_can_dev_write_unlocked, declare_production_build, confirm_car_identity, revoke_car_identity, confirm_car_fingerprint, set_can_read_only, open_identity_probe, close_identity_probe, allow_can_tx, heard_can_frame, note_platform_id, note_can_logging, note_can_fd_bus, note_method_available, note_method_can_continue}
 use Rattle.frames.specs.declared.CanFrame.{CanFrame}
 use Rattle.frames.specs.declared.TxClass.{TxClass}
+use Rattle.frames.specs.declared.TxClass.TheVariants.{Platform}
 use Rattle.waiting_list.specs.declared.Waiting.{Waiting}
+use Rattle.replay_lists.specs.Lists.{no_method, no_frame as no_probe_frame}
 use Rattle.replay_items.specs.Bytes.{Bytes}
+use Rattle.replay_items.specs.Values.{no_car, no_frame, no_settings}
 use Rattle.replay_items.specs.declared.Items.{Items}
 
 -- ---- the calls that change the gate
 
 abbrev pub new_call : Items → Call
-new_call i = new_gate_call i.settings.settings i.methods.list i.methods.count
+new_call i = new_gate_call (unwrap_or i.settings no_settings) (unwrap_or i.methods.list (replicate 8 no_method)) i.methods.count
 
 -- the phones and their validation; `none` for the connected phone is no bytes
 unfoldable pub phone_calls : Items → Bytes → List Call
 phone_calls i b =
     new_call i
-    ∷ start_validation b.phone b.method i.numbers.clock.value b.random
-    ∷ submit_validation_code b.phone b.code i.numbers.clock.value
-    ∷ on_session (cancel_validation b.phone i.numbers.clock.value)
-    ∷ on_session (complete_validation_action i.numbers.session.value i.numbers.clock.value)
-    ∷ on_session (tick_validation i.numbers.clock.value)
+    ∷ start_validation b.phone b.method (unwrap_or i.numbers.clock 0) b.random
+    ∷ submit_validation_code b.phone b.code (unwrap_or i.numbers.clock 0)
+    ∷ on_session (cancel_validation b.phone (unwrap_or i.numbers.clock 0))
+    ∷ on_session (complete_validation_action (unwrap_or i.numbers.session 0) (unwrap_or i.numbers.clock 0))
+    ∷ on_session (tick_validation (unwrap_or i.numbers.clock 0))
     ∷ on_lists (add_paired_phone b.phone)
     ∷ on_lists (remove_paired_phone b.phone)
     ∷ on_lists clear_paired_phones
@@ -40,22 +44,22 @@ unfoldable pub can_calls : Items → Bytes → List Call
 can_calls i b =
     on_core approve_can_read_write
     ∷ on_core revoke_can_read_write_approval
-    ∷ on_core (restore_can_read_write_approval i.car.car)
-    ∷ on_core (set_can_dev_write_unlocked i.switches.unlocked.on)
+    ∷ on_core (restore_can_read_write_approval (unwrap_or i.car no_car))
+    ∷ on_core (set_can_dev_write_unlocked (unwrap_or i.switches.unlocked false))
     ∷ on_core declare_production_build
     ∷ on_core confirm_car_identity
     ∷ on_core revoke_car_identity
     ∷ on_core (confirm_car_fingerprint b.fingerprint)
-    ∷ on_core (set_can_read_only i.switches.enabled.on)
-    ∷ on_core (open_identity_probe i.numbers.bus.value i.frames.list i.frames.count i.numbers.clock.value)
+    ∷ on_core (set_can_read_only (unwrap_or i.switches.enabled false))
+    ∷ on_core (open_identity_probe (unwrap_or i.numbers.bus 0) (unwrap_or i.frames.list (replicate 4 no_probe_frame)) i.frames.count (unwrap_or i.numbers.clock 0))
     ∷ on_core close_identity_probe
-    ∷ on_core (allow_can_tx i.numbers.bus.value i.frame.frame i.class.class b.owner i.numbers.clock.value)
-    ∷ on_core (heard_can_frame i.numbers.bus.value i.numbers.clock.value)
-    ∷ on_core (note_platform_id i.numbers.number.value)
-    ∷ on_core (note_can_logging i.switches.on.on)
-    ∷ on_core (note_can_fd_bus i.numbers.bus.value i.switches.on.on)
-    ∷ on_core (note_method_available i.numbers.place.value i.switches.on.on)
-    ∷ on_core (note_method_can_continue i.numbers.place.value i.switches.on.on)
+    ∷ on_core (allow_can_tx (unwrap_or i.numbers.bus 0) (unwrap_or i.frame no_frame) (unwrap_or i.class Platform) b.owner (unwrap_or i.numbers.clock 0))
+    ∷ on_core (heard_can_frame (unwrap_or i.numbers.bus 0) (unwrap_or i.numbers.clock 0))
+    ∷ on_core (note_platform_id (unwrap_or i.numbers.number 0))
+    ∷ on_core (note_can_logging (unwrap_or i.switches.on false))
+    ∷ on_core (note_can_fd_bus (unwrap_or i.numbers.bus 0) (unwrap_or i.switches.on false))
+    ∷ on_core (note_method_available (unwrap_or i.numbers.place 0) (unwrap_or i.switches.on false))
+    ∷ on_core (note_method_can_continue (unwrap_or i.numbers.place 0) (unwrap_or i.switches.on false))
     ∷ []
 
 -- ---- the queries
@@ -71,15 +75,15 @@ plain_queries i b =
     ∷ is_can_dev_write_unlocked
     ∷ platform_id
     ∷ is_can_logging
-    ∷ is_can_fd_bus i.numbers.bus.value
-    ∷ is_can_bus_read_only i.numbers.bus.value
-    ∷ is_can_bus_listen_only i.numbers.bus.value i.numbers.clock.value
+    ∷ is_can_fd_bus (unwrap_or i.numbers.bus 0)
+    ∷ is_can_bus_read_only (unwrap_or i.numbers.bus 0)
+    ∷ is_can_bus_listen_only (unwrap_or i.numbers.bus 0) (unwrap_or i.numbers.clock 0)
     ∷ is_phone_paired b.phone
     ∷ paired_phone_count
     ∷ ble_max_bonded_phones
     ∷ is_phone_validated b.phone
     ∷ car_has_validated_phone
-    ∷ session_for b.phone i.numbers.clock.value
+    ∷ session_for b.phone (unwrap_or i.numbers.clock 0)
     ∷ []
 
 -- those whose answers hold more
@@ -90,7 +94,7 @@ long_queries i b =
     ∷ list_paired_phones
     ∷ phone_trust_level b.phone
     ∷ ble_peer
-    ∷ phone_access_state i.numbers.clock.value
+    ∷ phone_access_state (unwrap_or i.numbers.clock 0)
     ∷ validation_methods
     ∷ current_validation_challenge
     ∷ encode_phone_validations
@@ -133,19 +137,19 @@ asking q = call (ask q)
 -- those that are no calls, and the call that is lent memory
 unfoldable pub other_lines : Items → Bytes → List Line
 other_lines i b =
-    counters i.numbers.next.value i.numbers.relocks.value
+    counters (unwrap_or i.numbers.next 0) (unwrap_or i.numbers.relocks 0)
     ∷ state
-    ∷ convert b.stored i.switches.target.on b.output
+    ∷ convert b.stored (unwrap_or i.switches.target false) b.output
     ∷ call (on_save (take_phone_validations_save b.output))
     ∷ []
 
 -- the calls on waiting frames, and the lines about the host's list (02, W-204)
 unfoldable pub host_lines : Items → Bytes → List Line
 host_lines i b =
-    lending (λ (list : List Waiting). send_can_frame list i.frame.frame i.class.class b.owner)
-    ∷ lending (λ (list : List Waiting). serve_can_frames list i.numbers.turns.value i.numbers.clock.value)
-    ∷ set_list i.numbers.length.value
-    ∷ set_record i.numbers.slot.value i.frame.frame i.class.class b.owner
+    lending (λ (list : List Waiting). send_can_frame list (unwrap_or i.frame no_frame) (unwrap_or i.class Platform) b.owner)
+    ∷ lending (λ (list : List Waiting). serve_can_frames list (unwrap_or i.numbers.turns 0) (unwrap_or i.numbers.clock 0))
+    ∷ set_list (unwrap_or i.numbers.length 0)
+    ∷ set_record (unwrap_or i.numbers.slot 0) (unwrap_or i.frame no_frame) (unwrap_or i.class Platform) b.owner
     ∷ lent_list
     ∷ []
 

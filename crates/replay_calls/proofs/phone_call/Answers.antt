@@ -1,30 +1,31 @@
--- Each arm: its number, the bytes that it takes, and what its call ensures.
-use borrow.Author.Rules.{rules}
-use mathlib.Core.Path.{refl}
+-- Each arm: its number, the bytes and the items that it takes, and what its call ensures.
+use Rattle.std.proofs.Common.{◌≡◌, refl, rules, replicate, unwrap_or}
 use Rattle.replay_items.specs.Bytes.{lent_bytes}
+use Rattle.replay_items.specs.Values.{no_settings}
+use Rattle.replay_lists.specs.Lists.{no_method}
 use Rattle.replay_calls.specs.Calls.{new_call, phone_calls, phone_call}
 use Rattle.replay_calls.proofs.Laws.{else_first}
 use Rattle.replay_calls.proofs.phone_call.Goals as goal
 
 pub returns-in-1 : goal.returns-in-1
 unfolding lent_bytes phone_call phone_calls
-returns-in-1 c = rw (c.in-1.is, ← c.lent-phone.ensures, ← c.lent-method.ensures, ← c.lent-random.ensures) c.start_validation.ensures
+returns-in-1 c = rw (c.in-1.is, ← c.lent-phone.ensures, ← c.lent-method.ensures, ← c.lent-random.ensures, ← c.unwrap_or-at.ensures) c.start_validation.ensures
 
 pub returns-in-2 : goal.returns-in-2
 unfolding lent_bytes phone_call phone_calls
-returns-in-2 c = rw (c.in-2.is, ← c.lent-phone.ensures, ← c.lent-typed.ensures) c.submit_validation_code.ensures
+returns-in-2 c = rw (c.in-2.is, ← c.lent-phone.ensures, ← c.lent-typed.ensures, ← c.unwrap_or-at.ensures) c.submit_validation_code.ensures
 
 pub returns-in-3 : goal.returns-in-3
 unfolding lent_bytes phone_call phone_calls
-returns-in-3 c = rw (c.in-3.is, ← c.lent-phone.ensures) c.cancel_validation.ensures
+returns-in-3 c = rw (c.in-3.is, ← c.lent-phone.ensures, ← c.unwrap_or-at.ensures) c.cancel_validation.ensures
 
 pub returns-in-4 : goal.returns-in-4
 unfolding lent_bytes phone_call phone_calls
-returns-in-4 c = rw c.in-4.is c.complete_validation_action_at.ensures
+returns-in-4 c = rw (c.in-4.is, ← c.unwrap_or-at.ensures, ← c.unwrap_or.ensures) c.complete_validation_action_at.ensures
 
 pub returns-in-5 : goal.returns-in-5
 unfolding lent_bytes phone_call phone_calls
-returns-in-5 c = rw c.in-5.is c.tick_validation.ensures
+returns-in-5 c = rw (c.in-5.is, ← c.unwrap_or-at.ensures) c.tick_validation.ensures
 
 pub returns-in-6 : goal.returns-in-6
 unfolding lent_bytes phone_call phone_calls
@@ -60,4 +61,8 @@ returns-in-13 c = rw (c.in-13.is, ← c.lent-phone.ensures) c.set_ble_peer.ensur
 
 pub returns-in_default : goal.returns-in_default
 unfolding lent_bytes phone_call phone_calls
-returns-in_default c = let a = c.args in rw (else_first (phone_calls a.i (lent_bytes a.p a.room.now)) (new_call a.i) a.name refl (search rules)) (c.new_gate.ensures a.g)
+returns-in_default c =
+    let a = c.args in
+    let s : c.unwrap_or-settings.result ≡ unwrap_or a.i.settings no_settings = c.unwrap_or-settings.ensures in
+    let l : c.unwrap_or-list.result ≡ unwrap_or a.i.methods.list (replicate 8 no_method) = c.unwrap_or-list.ensures in
+    rw (else_first (phone_calls a.i (lent_bytes a.p a.room.now)) (new_call a.i) a.name refl (search rules), ← s, ← l) (c.new_gate.ensures a.g)
