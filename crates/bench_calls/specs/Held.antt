@@ -1,11 +1,11 @@
 -- The gate that a round runs on: the car identified and approved, read-write, and the phones of the record paired and
 -- validated.
-use Rattle.std.specs.Prelude.{ℕ, Bool, true, false, cond, List, replicate}
+use Rattle.std.specs.Prelude.{ℕ, Bool, true, false, cond, List, Option, unwrap_or, replicate}
 use Rattle.frames.specs.declared.CanFrame.{CanFrame}
 use Rattle.frames.specs.declared.Id.TheVariants.{Standard}
 use Rattle.frames.specs.declared.TxClass.{TxClass}
 use Rattle.frames.specs.declared.TxClass.TheVariants.{Platform, Command}
-use Rattle.phones.specs.declared.MadeId.{MadeId}
+use Rattle.phones.specs.declared.ShortId.{ShortId}
 use Rattle.phones.specs.Phones.{made_id, list_of}
 use Rattle.saved_record.specs.Store.{cars_of}
 use Rattle.validations.specs.Store.{phones_for}
@@ -39,8 +39,11 @@ writable digest = record {
 abbrev pub settings : Settings
 settings = record { digits = 4; tries = 3; session = 60000; cooldown = 0; keep = 10000; bonded = 32 }
 
-abbrev pub method_of : MadeId → Method
-method_of made = record { id = made.id; kind = CodeEntry; needs_approval = true }
+abbrev pub no_id : ShortId
+no_id = record { bytes = replicate 32 0; len = 0 }
+
+abbrev pub method_of : Option ShortId → Method
+method_of made = record { id = unwrap_or made no_id; kind = CodeEntry; needs_approval = true }
 
 -- a gate with that policy, the phones validated for this car paired
 abbrev pub opened : Gate → List ℕ → Gate

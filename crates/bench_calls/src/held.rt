@@ -8,6 +8,11 @@ use phones::ShortId;
 use state::{Access, Buses, Car, Gate, Identity, Kind, Method, Phones, Policy, Queue, Settings};
 use waiting_list::Waiting;
 
+const NO_ID: ShortId = ShortId {
+    bytes: [0; 32],
+    len: 0,
+};
+
 // A gate, and the sum so far.
 #[derive(Clone, Copy)]
 pub struct Run {
@@ -28,11 +33,10 @@ pub fn class_of(command: bool) -> TxClass
 pub fn frame() -> CanFrame
     ensures { result ≡ Held.frame }
 {
-    let data = [0x11u8; 8];
     CanFrame {
         bus: 1,
         id: Id::Standard(0x123),
-        data,
+        data: [0x11; 8],
         dlc: 8,
     }
 }
@@ -45,48 +49,36 @@ fn policy(digest: [u8; 32]) -> Policy
         known: true,
         digest,
     };
-    let identity = Identity {
-        platform: 7,
-        confirmed: true,
-        car,
-    };
-    let access = Access {
-        approval: car,
-        unlocked: true,
-        production: false,
-    };
-    let fd = [false; 4];
-    let buses = Buses {
-        vehicle_read_only: false,
-        logging: false,
-        fd,
-    };
     Policy {
-        identity,
-        access,
-        buses,
+        identity: Identity {
+            platform: 7,
+            confirmed: true,
+            car,
+        },
+        access: Access {
+            approval: car,
+            unlocked: true,
+            production: false,
+        },
+        buses: Buses {
+            vehicle_read_only: false,
+            logging: false,
+            fd: [false; 4],
+        },
     }
 }
 
 fn open(g: Gate, digest: [u8; 32]) -> Gate
     ensures { result ≡ opened g digest }
 {
-    let p = policy(digest);
-    let c = g.core;
-    let core = state::parts::with_policy(c, p);
-    let store = g.phones.store;
-    let validated = validations::phones_for(store, digest);
-    let paired = phones::canonical(validated);
-    let phones = Phones { paired, store };
-    let save = g.save;
-    let queue = g.queue;
-    let code = g.code;
+    let validated = validations::phones_for(g.phones.store, digest);
     Gate {
-        core,
-        phones,
-        save,
-        queue,
-        code,
+        core: state::parts::with_policy(g.core, policy(digest)),
+        phones: Phones {
+            paired: phones::canonical(validated),
+            ..g.phones
+        },
+        ..g
     }
 }
 
@@ -94,10 +86,8 @@ fn open(g: Gate, digest: [u8; 32]) -> Gate
 pub fn ready(digest: [u8; 32], bytes: &[u8], method: &[u8]) -> Gate
     ensures { result ≡ Held.ready digest bytes.now method.now }
 {
-    let made = phones::make_id(method);
-    let id = made.id;
     let m = Method {
-        id,
+        id: phones::make_id(method).unwrap_or(NO_ID),
         kind: Kind::CodeEntry,
         needs_approval: true,
     };
@@ -109,25 +99,19 @@ pub fn ready(digest: [u8; 32], bytes: &[u8], method: &[u8]) -> Gate
         keep: 10_000,
         bonded: 32,
     };
-    let methods = [m; 8];
-    let fresh = gate_sessions::new_gate(settings, methods, 1);
-    let g = fresh.gate;
-    let o = gate_phones::restore_phone_validations(g, bytes);
-    let h = o.gate;
-    open(h, digest)
+    let fresh = gate_sessions::new_gate(settings, [m; 8], 1);
+    let o = gate_phones::restore_phone_validations(fresh.gate, bytes);
+    open(o.gate, digest)
 }
 
 // A list in which no frame waits.
 pub fn list() -> [Waiting; 16]
     ensures { result ≡ Held.list }
 {
-    let frame = frame();
-    let bytes = [0u8; 32];
-    let owner = ShortId { bytes, len: 0 };
     let one = Waiting {
-        frame,
+        frame: frame(),
         class: TxClass::Platform,
-        owner,
+        owner: NO_ID,
     };
     [one; 16]
 }
@@ -136,8 +120,8 @@ pub fn list() -> [Waiting; 16]
 pub fn emptied(g: Gate) -> Gate
     ensures { result ≡ Held.emptied g }
 {
-    let queue = Queue { count: 0, last: 3 };
-    let mut next = g;
-    next.queue = queue;
-    next
+    Gate {
+        queue: Queue { count: 0, last: 3 },
+        ..g
+    }
 }

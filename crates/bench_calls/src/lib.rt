@@ -6,7 +6,7 @@
 pub mod held;
 pub mod seen;
 
-ghost use Rattle.std.specs.Prelude.{◌≡◌};
+ghost use Rattle.std.specs.Prelude.{◌≡◌, is_some, unwrap_or, replicate};
 ghost use Rattle.car_digest.specs.CarDigest.{car_digest};
 ghost use Rattle.bench_calls.specs.Held.{ready, frame, class_of};
 ghost use Rattle.bench_calls.specs.Rounds as Rounds;
@@ -17,23 +17,22 @@ use state::{Answer, Gate, Outcome};
 
 // The digest of a car, written to `out`; zeros and no above 4,096 bytes.
 pub fn timed_digest(platform: u32, fingerprint: &[u8], out: &mut [u8; 32]) -> bool
-    ensures { (result ≡ (car_digest platform fingerprint.now).ok) × (out.new ≡ (car_digest platform fingerprint.now).digest) }
+    ensures { (result ≡ is_some (car_digest platform fingerprint.now)) × (out.new ≡ unwrap_or (car_digest platform fingerprint.now) (replicate 32 0)) }
 {
-    let d = car_digest::car_digest(platform, fingerprint);
-    let digest = d.digest;
-    *out = digest;
-    d.ok
+    let digest = car_digest::car_digest(platform, fingerprint);
+    *out = digest.unwrap_or([0; 32]);
+    digest.is_some()
 }
 
 // A query raises nothing.
 fn encoded(r: Run, i: u64) -> Run
     ensures { result ≡ Rounds.encoded r i }
 {
-    let g = r.gate;
-    let a = queries::encode_phone_validations(g);
-    let stored = a.stored;
-    let next = seen::add(r.sum, seen::record_byte(stored, i));
-    Run { gate: g, sum: next }
+    let a = queries::encode_phone_validations(r.gate);
+    Run {
+        sum: seen::add(r.sum, seen::record_byte(a.stored, i)),
+        ..r
+    }
 }
 
 // `n` starts, each in the place of the one before it.
@@ -47,16 +46,12 @@ pub fn timed_starts(
 ) -> u32
     ensures { result ≡ sum_of (Rounds.started phone.now method.now random.now) (ready car.now bytes.now method.now) n }
 {
-    let digest = *car;
-    let mut g = held::ready(digest, bytes, method);
+    let mut g = held::ready(*car, bytes, method);
     let mut sum = 0;
-    let mut i = 0;
-    while i < n {
+    for i in 0..n {
         let o = gate_sessions::start_validation(g, phone, method, i, random);
         sum = seen::after(sum, o, i);
-        let next = o.gate;
-        g = next;
-        i += 1;
+        g = o.gate;
     }
     sum
 }
@@ -73,19 +68,14 @@ pub fn timed_submits(
 ) -> u32
     ensures { result ≡ sum_of (tried phone.now method.now random.now typed.now) (ready car.now bytes.now method.now) n }
 {
-    let digest = *car;
-    let mut g = held::ready(digest, bytes, method);
+    let mut g = held::ready(*car, bytes, method);
     let mut sum = 0;
-    let mut i = 0;
-    while i < n {
+    for i in 0..n {
         let o = gate_sessions::start_validation(g, phone, method, i, random);
         sum = seen::after(sum, o, i);
-        let begun = o.gate;
-        let p = gate_sessions::submit_validation_code(begun, phone, typed, i);
+        let p = gate_sessions::submit_validation_code(o.gate, phone, typed, i);
         sum = seen::after(sum, p, i);
-        let next = p.gate;
-        g = next;
-        i += 1;
+        g = p.gate;
     }
     sum
 }
@@ -101,18 +91,14 @@ pub fn timed_allows(
 ) -> u32
     ensures { result ≡ sum_of (Rounds.allowed frame (class_of command) owner.now) (ready car.now bytes.now method.now) n }
 {
-    let digest = *car;
-    let mut g = held::ready(digest, bytes, method);
+    let mut g = held::ready(*car, bytes, method);
     let mut sum = 0;
     let frame = held::frame();
     let class = held::class_of(command);
-    let mut i = 0;
-    while i < n {
+    for i in 0..n {
         let o = gate_frames::allow_can_tx(g, frame.bus, frame, class, owner, i);
         sum = seen::after(sum, o, i);
-        let next = o.gate;
-        g = next;
-        i += 1;
+        g = o.gate;
     }
     sum
 }
@@ -128,22 +114,17 @@ pub fn timed_sends(
 ) -> u32
     ensures { result ≡ sum_lent (Rounds.sent_first frame (class_of command) owner.now) (ready car.now bytes.now method.now) n }
 {
-    let digest = *car;
-    let mut g = held::ready(digest, bytes, method);
+    let mut g = held::ready(*car, bytes, method);
     let mut all = held::list();
     let mut sum = 0;
     let frame = held::frame();
     let class = held::class_of(command);
-    let mut i = 0;
-    while i < n {
+    for i in 0..n {
         let s = gate_queue::send_sixteen(g, all, frame, class, owner);
         let o = s.outcome;
         sum = seen::after(sum, o, i);
-        let left = s.all;
-        all = left;
-        let next = o.gate;
-        g = held::emptied(next);
-        i += 1;
+        all = s.all;
+        g = held::emptied(o.gate);
     }
     sum
 }
@@ -159,27 +140,19 @@ pub fn timed_serves(
 ) -> u32
     ensures { result ≡ sum_lent (Rounds.passed frame (class_of command) owner.now) (ready car.now bytes.now method.now) n }
 {
-    let digest = *car;
-    let mut g = held::ready(digest, bytes, method);
+    let mut g = held::ready(*car, bytes, method);
     let mut all = held::list();
     let mut sum = 0;
     let frame = held::frame();
     let class = held::class_of(command);
-    let mut i = 0;
-    while i < n {
+    for i in 0..n {
         let s = gate_queue::send_sixteen(g, all, frame, class, owner);
         let o = s.outcome;
         sum = seen::after(sum, o, i);
-        let waiting = s.all;
-        let sent = o.gate;
-        let d = gate_queue::serve_sixteen(sent, waiting, 1, i);
-        let ran = d.ran;
-        sum = seen::after_run(sum, ran, i);
-        let left = d.all;
-        all = left;
-        let next = ran.outcome.gate;
-        g = next;
-        i += 1;
+        let d = gate_queue::serve_sixteen(o.gate, s.all, 1, i);
+        sum = seen::after_run(sum, d.ran, i);
+        all = d.all;
+        g = d.ran.outcome.gate;
     }
     sum
 }
@@ -188,16 +161,12 @@ pub fn timed_serves(
 pub fn timed_restores(n: u64, car: &[u8; 32], bytes: &[u8], method: &[u8]) -> u32
     ensures { result ≡ sum_of (Rounds.restored bytes.now) (ready car.now bytes.now method.now) n }
 {
-    let digest = *car;
-    let mut g = held::ready(digest, bytes, method);
+    let mut g = held::ready(*car, bytes, method);
     let mut sum = 0;
-    let mut i = 0;
-    while i < n {
+    for i in 0..n {
         let o = gate_phones::restore_phone_validations(g, bytes);
         sum = seen::after(sum, o, i);
-        let next = o.gate;
-        g = next;
-        i += 1;
+        g = o.gate;
     }
     sum
 }
@@ -206,15 +175,11 @@ pub fn timed_restores(n: u64, car: &[u8; 32], bytes: &[u8], method: &[u8]) -> u3
 fn least(g: Gate, i: u64) -> Outcome
     ensures { result ≡ Rounds.least g i }
 {
-    let digit = (i % 256) as u8;
-    let code = [digit; 9];
-    let mut gate = g;
-    gate.code = code;
-    let signals = state::replies::no_signals();
+    let code = [(i % 256) as u8; 9];
     Outcome {
         answer: Answer::Done,
-        signals,
-        gate,
+        signals: state::replies::no_signals(),
+        gate: Gate { code, ..g },
     }
 }
 
@@ -222,16 +187,12 @@ fn least(g: Gate, i: u64) -> Outcome
 pub fn timed_floors(n: u64, car: &[u8; 32], bytes: &[u8], method: &[u8]) -> u32
     ensures { result ≡ sum_of Rounds.floored (ready car.now bytes.now method.now) n }
 {
-    let digest = *car;
-    let mut g = held::ready(digest, bytes, method);
+    let mut g = held::ready(*car, bytes, method);
     let mut sum = 0;
-    let mut i = 0;
-    while i < n {
+    for i in 0..n {
         let o = least(g, i);
         sum = seen::after(sum, o, i);
-        let next = o.gate;
-        g = next;
-        i += 1;
+        g = o.gate;
     }
     sum
 }
@@ -240,14 +201,10 @@ pub fn timed_floors(n: u64, car: &[u8; 32], bytes: &[u8], method: &[u8]) -> u32
 pub fn timed_encodes(n: u64, car: &[u8; 32], bytes: &[u8], method: &[u8]) -> u32
     ensures { result ≡ sum_of Rounds.encoded (ready car.now bytes.now method.now) n }
 {
-    let digest = *car;
-    let gate = held::ready(digest, bytes, method);
+    let gate = held::ready(*car, bytes, method);
     let mut r = Run { gate, sum: 0 };
-    let mut i = 0;
-    while i < n {
-        let next = encoded(r, i);
-        r = next;
-        i += 1;
+    for i in 0..n {
+        r = encoded(r, i);
     }
     r.sum
 }

@@ -11,13 +11,7 @@ use state::{Answer, Challenge, Outcome, Ran, Report, Signals};
 pub fn add(x: u32, y: u32) -> u32
     ensures { result ≡ Seen.add x y }
 {
-    std::num::wrapping_add_u32(x, y)
-}
-
-fn wide(x: u8) -> u32
-    ensures { result ≡ x }
-{
-    x as u32
+    x.wrapping_add(y)
 }
 
 fn narrow(x: usize) -> u32
@@ -37,18 +31,14 @@ fn bit(b: bool, weight: u32) -> u32
 pub fn record_byte(r: SavedRecord, i: u64) -> u32
     ensures { result ≡ record_byte r i }
 {
-    let at = (i % 1089) as usize;
-    let bytes = r.bytes;
-    wide(bytes[at + 2])
+    u32::from(r.bytes[(i % 1089) as usize + 2])
 }
 
 // Another digit at each turn.
 fn digit(c: Challenge, i: u64) -> u32
     ensures { result ≡ Seen.digit c i }
 {
-    let at = (i % 9) as usize;
-    let code = c.code;
-    wide(code[at])
+    u32::from(c.code[(i % 9) as usize])
 }
 
 fn flags(s: Signals) -> u32
@@ -63,9 +53,10 @@ fn flags(s: Signals) -> u32
 fn raised(s: Signals, i: u64) -> u32
     ensures { result ≡ Seen.raised s i }
 {
-    let stored = s.validations.stored;
-    let challenge = s.challenge.challenge;
-    let bytes = add(record_byte(stored, i), digit(challenge, i));
+    let bytes = add(
+        record_byte(s.validations.stored, i),
+        digit(s.challenge.challenge, i),
+    );
     add(flags(s), bytes)
 }
 
@@ -77,40 +68,7 @@ fn answer_seen(a: Answer) -> u32
         Answer::Yes => 1,
         Answer::Session(s) => add(s.seconds, 3),
         Answer::WrongCode(s) => add(s.seconds, 4),
-        Answer::No => 0,
-        Answer::Nothing => 0,
-        Answer::Count(_) => 0,
-        Answer::Number(_) => 0,
-        Answer::Reason(_) => 0,
-        Answer::Taken(_, _) => 0,
-        Answer::UnknownMethod => 0,
-        Answer::CarNotIdentified => 0,
-        Answer::CoolingDown(_) => 0,
-        Answer::OtherPhoneSession => 0,
-        Answer::MethodUnavailable => 0,
-        Answer::MethodNotAvailableNow => 0,
-        Answer::NoRandomSource => 0,
-        Answer::NoSession => 0,
-        Answer::NotCodeEntry => 0,
-        Answer::NoDevLock => 0,
-        Answer::NotNeeded => 0,
-        Answer::Logging => 0,
-        Answer::BusAsleep => 0,
-        Answer::Busy => 0,
-        Answer::NoAttemptsLeft => 0,
-        Answer::Invalid => 0,
-        Answer::IdTooLong => 0,
-        Answer::RandomSpent => 0,
-        Answer::NotText => 0,
-        Answer::ListFull => 0,
-        Answer::Malformed => 0,
-        Answer::TooLarge => 0,
-        Answer::BadFrame => 0,
-        Answer::BadSettings => 0,
-        Answer::BadBus => 0,
-        Answer::QueueFull => 0,
-        Answer::CarTwice => 0,
-        Answer::NoSave => 0,
+        _ => 0,
     }
 }
 
@@ -118,30 +76,20 @@ fn answer_seen(a: Answer) -> u32
 pub fn after(sum: u32, o: Outcome, i: u64) -> u32
     ensures { result ≡ (Rounds.after sum (given o) i).sum }
 {
-    let answer = o.answer;
-    let signals = o.signals;
-    let more = add(answer_seen(answer), raised(signals, i));
-    add(sum, more)
+    add(sum, add(answer_seen(o.answer), raised(o.signals, i)))
 }
 
 // How many turns a run took, and whether its first frame passes.
 fn report_seen(r: Report) -> u32
     ensures { result ≡ Seen.report_seen r }
 {
-    let frames = r.frames;
-    let first = frames[0];
-    add(narrow(r.turns), bit(first.allowed, 1))
+    add(narrow(r.turns), bit(r.frames[0].allowed, 1))
 }
 
 // The sum after a run.
 pub fn after_run(sum: u32, r: Ran, i: u64) -> u32
     ensures { result ≡ (Rounds.after sum (ran_given r []) i).sum }
 {
-    let o = r.outcome;
-    let report = r.report;
-    let answer = o.answer;
-    let signals = o.signals;
-    let told = add(answer_seen(answer), report_seen(report));
-    let more = add(told, raised(signals, i));
-    add(sum, more)
+    let told = add(answer_seen(r.outcome.answer), report_seen(r.report));
+    add(sum, add(told, raised(r.outcome.signals, i)))
 }

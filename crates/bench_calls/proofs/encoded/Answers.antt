@@ -6,5 +6,5 @@ use Rattle.bench_calls.proofs.encoded.Goals as goal
 pub returns : goal.returns
 returns c =
     let a = c.args in
-    rw (c.add-next.ensures, c.record_byte.ensures)
+    rw (c.add.ensures, c.record_byte.ensures)
     (ap (λ (x : Given). heard a.r.sum x a.i) c.encode_phone_validations-a.ensures)

@@ -6,21 +6,15 @@ use Rattle.bench_calls.proofs.timed_floors.Goals as goal
 
 pub loop-i-init : goal.loop-i-init
 unfolding turns
-loop-i-init c = (omega arith, refl)
-
-pub overflow_add-i : goal.overflow_add-i
-overflow_add-i c = omega (arith, c.loop-i-test.true, c.ranges.n)
-
-pub loop-i-smaller : goal.loop-i-smaller
-loop-i-smaller c = omega (arith, c.loop-i-test.true)
+loop-i-init c = refl
 
 pub loop-i-preserved : goal.loop-i-preserved
 loop-i-preserved c =
     let l = c.loop-i in
     let o = c.least-o in
-    (omega (arith, c.loop-i-test.true), turn_more _ _ l.i l.invariant.1 (run_after l.sum l.i o.result c.after-sum.ensures (ap given o.ensures)))
+    turn_more _ _ l.i l.invariant (run_after l.sum l.i o.result c.after-sum.ensures (ap given o.ensures))
 
 pub returns : goal.returns
 returns c =
     let l = c.loop-i in
-    sum_is _ _ _ l.i _ l.invariant.1 c.ready-g.ensures (omega (arith, l.invariant.0, c.loop-i-test.false))
+    sum_is _ _ _ l.i _ l.invariant c.ready-g.ensures (omega arith)

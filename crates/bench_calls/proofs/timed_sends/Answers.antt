@@ -9,15 +9,7 @@ use Rattle.bench_calls.proofs.timed_sends.Goals as goal
 
 pub loop-i-init : goal.loop-i-init
 unfolding turns
-loop-i-init c = (omega arith, refl)
-
-pub overflow_add-i : goal.overflow_add-i
-unfolding turns
-overflow_add-i c = omega (arith, c.loop-i-test.true, c.ranges.n)
-
-pub loop-i-smaller : goal.loop-i-smaller
-unfolding turns
-loop-i-smaller c = omega (arith, c.loop-i-test.true)
+loop-i-init c = refl
 
 pub loop-i-preserved : goal.loop-i-preserved
 unfolding turns
@@ -26,12 +18,12 @@ loop-i-preserved c =
     let s = c.send_sixteen-s in
     let sum = c.after-sum in
     let sent' = sent_after l.sum l.i l.g l.all _ _ _ s.result s.ensures sum.ensures in
-    (omega (arith, c.loop-i-test.true), turn_more _ _ l.i l.invariant.1 (ap (λ (x : Gate). lending_of x sum.result s.result.all) c.emptied-g.ensures ∙ ap cleared sent'))
+    turn_more _ _ l.i l.invariant (ap (λ (x : Gate). lending_of x sum.result s.result.all) c.emptied-g.ensures ∙ ap cleared sent')
 
 pub returns : goal.returns
 unfolding turns
 returns c =
     let l = c.loop-i in
     let a = c.args in
-    sum_lent_is _ _ _ _ l.i a.n l.invariant.1 c.ready-g.ensures c.list-all.ensures (omega (arith, l.invariant.0, c.loop-i-test.false))
+    sum_lent_is _ _ _ _ l.i a.n l.invariant c.ready-g.ensures c.list-all.ensures (omega arith)
     ∙ ap₂ (λ (f : CanFrame) (k : TxClass). sum_lent (sent_first f k a.owner.now) (ready a.car.now a.bytes.now a.method.now) a.n) c.frame-frame.ensures c.class_of-class.ensures

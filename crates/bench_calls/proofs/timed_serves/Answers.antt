@@ -8,15 +8,7 @@ use Rattle.bench_calls.proofs.timed_serves.Goals as goal
 
 pub loop-i-init : goal.loop-i-init
 unfolding turns
-loop-i-init c = (omega arith, refl)
-
-pub overflow_add-i : goal.overflow_add-i
-unfolding turns
-overflow_add-i c = omega (arith, c.loop-i-test.true, c.ranges.n)
-
-pub loop-i-smaller : goal.loop-i-smaller
-unfolding turns
-loop-i-smaller c = omega (arith, c.loop-i-test.true)
+loop-i-init c = refl
 
 pub loop-i-preserved : goal.loop-i-preserved
 unfolding turns
@@ -27,12 +19,12 @@ loop-i-preserved c =
     let sum = c.after-sum in
     let begun = sent_after l.sum l.i l.g l.all _ _ _ s.result s.ensures sum.ensures in
     let ran = ran_after sum.result l.i s.result.outcome.gate s.result.all d.result d.ensures c.after_run-sum.ensures in
-    (omega (arith, c.loop-i-test.true), turn_more _ _ l.i l.invariant.1 (ran ∙ ap (λ (x : Lending). served x l.i) begun))
+    turn_more _ _ l.i l.invariant (ran ∙ ap (λ (x : Lending). served x l.i) begun)
 
 pub returns : goal.returns
 unfolding turns
 returns c =
     let l = c.loop-i in
     let a = c.args in
-    sum_lent_is _ _ _ _ l.i a.n l.invariant.1 c.ready-g.ensures c.list-all.ensures (omega (arith, l.invariant.0, c.loop-i-test.false))
+    sum_lent_is _ _ _ _ l.i a.n l.invariant c.ready-g.ensures c.list-all.ensures (omega arith)
     ∙ ap₂ (λ (f : CanFrame) (k : TxClass). sum_lent (passed f k a.owner.now) (ready a.car.now a.bytes.now a.method.now) a.n) c.frame-frame.ensures c.class_of-class.ensures

@@ -1,10 +1,7 @@
-use Rattle.std.proofs.Common.{◌≡◌, ◌-◌, ◌≤◌}
+use Rattle.std.proofs.Common.{◌≡◌}
 use Rattle.bench_calls.specs.Rounds.{passed, turns}
 use Rattle.bench_calls.proofs.Laws.{lending_of}
 use Rattle.bench_calls.proofs.timed_serves.Given as goal
 
 abbrev pub invariant-loop-i : goal.invariant-loop-i
-invariant-loop-i l = (l.i ≤ l.n) × (lending_of l.g l.sum l.all ≡ turns (passed l.frame l.class l.owner) (lending_of l.initial.g 0 l.initial.all) l.i)
-
-abbrev pub decreases-loop-i : goal.decreases-loop-i
-decreases-loop-i l = l.n - l.i
+invariant-loop-i l = lending_of l.g l.sum l.all ≡ turns (passed l.frame l.class l.owner) (lending_of l.initial.g 0 l.initial.all) l.i

@@ -6,13 +6,7 @@ use Rattle.bench_calls.proofs.timed_submits.Goals as goal
 
 pub loop-i-init : goal.loop-i-init
 unfolding turns
-loop-i-init c = (omega arith, refl)
-
-pub overflow_add-i : goal.overflow_add-i
-overflow_add-i c = omega (arith, c.loop-i-test.true, c.ranges.n)
-
-pub loop-i-smaller : goal.loop-i-smaller
-loop-i-smaller c = omega (arith, c.loop-i-test.true)
+loop-i-init c = refl
 
 pub loop-i-preserved : goal.loop-i-preserved
 loop-i-preserved c =
@@ -23,9 +17,9 @@ loop-i-preserved c =
     let begun = run_after l.sum l.i o.result c.after-sum.ensures o.ensures in
     let judged = run_after c.after-sum.result l.i p.result c.after-sum-in-loop-i.ensures p.ensures in
     let both = judged ∙ ap (λ (x : Run). submitted a.phone.now a.typed.now x l.i) begun in
-    (omega (arith, c.loop-i-test.true), turn_more _ _ l.i l.invariant.1 both)
+    turn_more _ _ l.i l.invariant both
 
 pub returns : goal.returns
 returns c =
     let l = c.loop-i in
-    sum_is _ _ _ l.i _ l.invariant.1 c.ready-g.ensures (omega (arith, l.invariant.0, c.loop-i-test.false))
+    sum_is _ _ _ l.i _ l.invariant c.ready-g.ensures (omega arith)
