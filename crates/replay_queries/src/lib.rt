@@ -18,9 +18,10 @@ use state::{Answer, Gate};
 pub fn plain_query(g: Gate, name: usize, i: Items, p: Ends, room: &[u8]) -> Answer
     ensures { answered g (plain result) ≡ step g (ask (plain_query name i (lent_bytes p room.now))) }
 {
-    let bus = i.numbers.bus.value;
-    let at = i.numbers.clock.value;
+    let bus = i.numbers.bus.unwrap_or(0);
+    let at = i.numbers.clock.unwrap_or(0);
     let phone = replay_items::bytes::lent(room, 0, p.phone);
+    // An arm has a number, since a name is the number of its row in replay_names' table, which specs/Calls.antt and Names.antt count in.
     match name {
         1 => queries::can_read_only_reason(g),
         2 => queries::is_car_identity_confirmed(g),
@@ -55,13 +56,14 @@ pub fn put_long(
     ensures { (page out.new result ≡ shown (step g (ask (long_query name i (lent_bytes p room.now)))).answer (page out.old at)) × Within long_room (shown (step g (ask (long_query name i (lent_bytes p room.now)))).answer) }
 {
     let phone = replay_items::bytes::lent(room, 0, p.phone);
+    // An arm has a number, since a name is the number of its row in replay_names' table, which specs/Calls.antt and Names.antt count in.
     match name {
         1 => replay_answers::put_access(out, at, queries::can_access_state(g)),
         2 => { replay_answers::put_phones_listed(out, at, queries::list_paired_phones(g)) }
         3 => { replay_answers::put_trust(out, at, queries::phone_trust_level(g, phone)) }
         4 => replay_answers::put_peer(out, at, queries::ble_peer(g)),
         5 => {
-            let access = queries::phone_access_state(g, i.numbers.clock.value);
+            let access = queries::phone_access_state(g, i.numbers.clock.unwrap_or(0));
             replay_answers::put_phone_access(out, at, access)
         }
         6 => replay_answers::put_methods(out, at, queries::validation_methods(g)),

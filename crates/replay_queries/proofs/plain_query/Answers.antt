@@ -1,6 +1,5 @@
--- Each arm: its number, the phone where it takes one, and what its query ensures.
-use borrow.Author.Rules.{rules}
-use mathlib.Core.Path.{refl}
+-- Each arm: its number, the phone and the items where it takes them, and what its query ensures.
+use Rattle.std.proofs.Common.{refl, rules}
 use Rattle.answers.specs.Query.{is_can_read_only}
 use Rattle.replay_items.specs.Bytes.{lent_bytes}
 use Rattle.replay_calls.specs.Calls.{plain_queries, plain_query}
@@ -37,15 +36,15 @@ returns-in-7 c = rw c.in-7.is c.is_can_logging.ensures
 
 pub returns-in-8 : goal.returns-in-8
 unfolding lent_bytes plain_query plain_queries
-returns-in-8 c = rw c.in-8.is c.is_can_fd_bus.ensures
+returns-in-8 c = rw (c.in-8.is, ← c.unwrap_or-bus.ensures) c.is_can_fd_bus.ensures
 
 pub returns-in-9 : goal.returns-in-9
 unfolding lent_bytes plain_query plain_queries
-returns-in-9 c = rw c.in-9.is c.is_can_bus_read_only.ensures
+returns-in-9 c = rw (c.in-9.is, ← c.unwrap_or-bus.ensures) c.is_can_bus_read_only.ensures
 
 pub returns-in-10 : goal.returns-in-10
 unfolding lent_bytes plain_query plain_queries
-returns-in-10 c = rw c.in-10.is c.is_can_bus_listen_only.ensures
+returns-in-10 c = rw (c.in-10.is, ← c.unwrap_or-bus.ensures, ← c.unwrap_or-at.ensures) c.is_can_bus_listen_only.ensures
 
 pub returns-in-11 : goal.returns-in-11
 unfolding lent_bytes plain_query plain_queries
@@ -69,7 +68,7 @@ returns-in-15 c = rw c.in-15.is c.car_has_validated_phone.ensures
 
 pub returns-in-16 : goal.returns-in-16
 unfolding lent_bytes plain_query plain_queries
-returns-in-16 c = rw (c.in-16.is, ← c.lent-phone.ensures) c.session_for.ensures
+returns-in-16 c = rw (c.in-16.is, ← c.lent-phone.ensures, ← c.unwrap_or-at.ensures) c.session_for.ensures
 
 pub returns-in_default : goal.returns-in_default
 unfolding lent_bytes plain_query plain_queries

@@ -1,6 +1,5 @@
 -- Each arm: its number, what its query ensures, and what is laid down of the answer and how much room that takes.
-use borrow.Author.Rules.{rules}
-use mathlib.Core.Path.{refl}
+use Rattle.std.proofs.Common.{refl, rules}
 use Rattle.answers.specs.Query.{can_read_write_approval}
 use Rattle.replay_answers.proofs.Room.{approval_in, access_in, phones_listed_in, trust_in, peer_in, phone_access_in, methods_in_lem, challenge_in, encoded_in, preview_in}
 use Rattle.replay_items.specs.Bytes.{lent_bytes}
@@ -26,7 +25,7 @@ returns-in-4 c = rw (c.in-4.is, ← c.ble_peer.ensures) (c.put_peer.ensures, pee
 
 pub returns-in-5 : goal.returns-in-5
 unfolding lent_bytes long_query long_queries
-returns-in-5 c = rw (c.in-5.is, ← c.phone_access_state-access.ensures) (c.put_phone_access.ensures, phone_access_in c.phone_access_state-access.result _ c.phone_access_state-access.type_inv)
+returns-in-5 c = rw (c.in-5.is, ← c.unwrap_or.ensures, ← c.phone_access_state-access.ensures) (c.put_phone_access.ensures, phone_access_in c.phone_access_state-access.result _ c.phone_access_state-access.type_inv)
 
 pub returns-in-6 : goal.returns-in-6
 unfolding lent_bytes long_query long_queries
