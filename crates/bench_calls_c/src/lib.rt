@@ -1,7 +1,7 @@
 // What C and Rust call of the crate bench_calls: each export calls its function there and says the same of its result.
 #![tactic(auto)]
 
-ghost use Rattle.std.specs.Prelude.{◌≡◌};
+ghost use Rattle.std.specs.Prelude.{◌≡◌, is_some, unwrap_or, replicate};
 ghost use Rattle.car_digest.specs.CarDigest.{car_digest};
 ghost use Rattle.bench_calls.specs.Held.{ready, frame, class_of};
 ghost use Rattle.bench_calls.specs.Rounds as Rounds;
@@ -10,7 +10,7 @@ ghost use Rattle.bench_calls.specs.Rounds.{tried, sum_of, sum_lent};
 // The digest of a car, written to `out`; zeros and no above 4,096 bytes.
 #[unsafe(no_mangle)]
 pub extern "C" fn timed_digest(platform: u32, fingerprint: &[u8], out: &mut [u8; 32]) -> bool
-    ensures { (result ≡ (car_digest platform fingerprint.now).ok) × (out.new ≡ (car_digest platform fingerprint.now).digest) }
+    ensures { (result ≡ is_some (car_digest platform fingerprint.now)) × (out.new ≡ unwrap_or (car_digest platform fingerprint.now) (replicate 32 0)) }
 {
     bench_calls::timed_digest(platform, fingerprint, out)
 }
