@@ -69,6 +69,7 @@ pub fn restore_phone_validations(g: Gate, bytes: &[u8]) -> Outcome
 }
 
 // An empty id is none.
+#[tactic(auto, using(outcomes::proofs::Laws::by_core), unfolding(definition::specs::Gate::said, definition::specs::Gate::says))]
 pub fn set_ble_peer(g: Gate, id: &[u8]) -> Outcome
     ensures { given result ≡ step g (on_core (set_ble_peer id.now)) }
 {

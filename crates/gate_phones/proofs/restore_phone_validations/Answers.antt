@@ -1,4 +1,4 @@
-use mathlib.Core.Path.{refl}
+use Rattle.std.proofs.Common.{refl}
 use Rattle.definition.specs.Gate.{restore_phone_validations, listing}
 use Rattle.outcomes.proofs.Laws.{by_lists}
 use Rattle.gate_phones.proofs.restore_phone_validations.Goals as goal
