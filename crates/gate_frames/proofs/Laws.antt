@@ -1,7 +1,5 @@
 -- A platform frame does not ask for its owner.
-use mathlib.Core.Path.{◌≡◌, refl}
-use mathlib.Core.Bool.{Bool}
-use Prim.Native.Nat.{ℕ}
+use Rattle.std.proofs.Common.{Bool, ℕ, ◌≡◌, refl}
 use Rattle.frames.specs.declared.CanFrame.{CanFrame}
 use Rattle.frames.specs.declared.TxClass.{TxClass}
 use Rattle.frames.specs.declared.TxClass.TheVariants.{Platform, Command}

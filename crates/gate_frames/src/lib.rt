@@ -1,6 +1,6 @@
 // The calls of the probe, on frames, and the host's notes: one function for each. State by value in; answer, signals and state by value
 // out. Each promise is an equation with `step` of definition/specs/Gate.antt, for every gate that is lent.
-#![tactic(auto)]
+#![tactic(auto, using(outcomes::proofs::Laws::by_core), unfolding(definition::specs::Gate::said, definition::specs::Gate::says))]
 
 ghost use Rattle.std.specs.Prelude.{◌≡◌};
 ghost use Rattle.definition.specs.Gate.{open_identity_probe, close_identity_probe, allow_can_tx, heard_can_frame, note_platform_id, note_can_logging, note_can_fd_bus, note_method_available, note_method_can_continue, on_core, said, step, given};
@@ -12,7 +12,6 @@ ghost use Rattle.gate_frames.specs.Owner.{of_class};
 use frames::{CanFrame, ProbeFrame, TxClass};
 use state::{Gate, Outcome, Said};
 
-#[tactic(auto, using(outcomes::proofs::Laws::by_core), unfolding(definition::specs::Gate::said, definition::specs::Gate::says))]
 pub fn open_identity_probe(
     g: Gate,
     bus: u8,
@@ -26,7 +25,6 @@ pub fn open_identity_probe(
     outcomes::settled(g, outcomes::said_on(g, said))
 }
 
-#[tactic(auto, using(outcomes::proofs::Laws::by_core), unfolding(definition::specs::Gate::said, definition::specs::Gate::says))]
 pub fn close_identity_probe(g: Gate) -> Outcome
     ensures { given result ≡ step g (on_core close_identity_probe) }
 {
@@ -72,7 +70,6 @@ pub fn allow_can_tx(
     outcomes::settled(g, allowed(g, bus, frame, class, owner, clock))
 }
 
-#[tactic(auto, using(outcomes::proofs::Laws::by_core), unfolding(definition::specs::Gate::said, definition::specs::Gate::says))]
 pub fn heard_can_frame(g: Gate, bus: u8, clock: u64) -> Outcome
     ensures { given result ≡ step g (on_core (heard_can_frame bus clock)) }
 {
@@ -80,7 +77,6 @@ pub fn heard_can_frame(g: Gate, bus: u8, clock: u64) -> Outcome
     outcomes::settled(g, outcomes::said_on(g, said))
 }
 
-#[tactic(auto, using(outcomes::proofs::Laws::by_core), unfolding(definition::specs::Gate::said, definition::specs::Gate::says))]
 pub fn note_platform_id(g: Gate, number: u32) -> Outcome
     ensures { given result ≡ step g (on_core (note_platform_id number)) }
 {
@@ -88,7 +84,6 @@ pub fn note_platform_id(g: Gate, number: u32) -> Outcome
     outcomes::settled(g, outcomes::said_on(g, said))
 }
 
-#[tactic(auto, using(outcomes::proofs::Laws::by_core), unfolding(definition::specs::Gate::said, definition::specs::Gate::says))]
 pub fn note_can_logging(g: Gate, on: bool) -> Outcome
     ensures { given result ≡ step g (on_core (note_can_logging on)) }
 {
@@ -96,7 +91,6 @@ pub fn note_can_logging(g: Gate, on: bool) -> Outcome
     outcomes::settled(g, outcomes::said_on(g, said))
 }
 
-#[tactic(auto, using(outcomes::proofs::Laws::by_core), unfolding(definition::specs::Gate::said, definition::specs::Gate::says))]
 pub fn note_can_fd_bus(g: Gate, bus: u8, on: bool) -> Outcome
     ensures { given result ≡ step g (on_core (note_can_fd_bus bus on)) }
 {
@@ -104,7 +98,6 @@ pub fn note_can_fd_bus(g: Gate, bus: u8, on: bool) -> Outcome
     outcomes::settled(g, outcomes::said_on(g, said))
 }
 
-#[tactic(auto, using(outcomes::proofs::Laws::by_core), unfolding(definition::specs::Gate::said, definition::specs::Gate::says))]
 pub fn note_method_available(g: Gate, place: usize, on: bool) -> Outcome
     ensures { given result ≡ step g (on_core (note_method_available place on)) }
 {
@@ -112,7 +105,6 @@ pub fn note_method_available(g: Gate, place: usize, on: bool) -> Outcome
     outcomes::settled(g, outcomes::said_on(g, said))
 }
 
-#[tactic(auto, using(outcomes::proofs::Laws::by_core), unfolding(definition::specs::Gate::said, definition::specs::Gate::says))]
 pub fn note_method_can_continue(g: Gate, place: usize, on: bool) -> Outcome
     ensures { given result ≡ step g (on_core (note_method_can_continue place on)) }
 {

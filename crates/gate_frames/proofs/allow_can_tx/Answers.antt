@@ -1,4 +1,4 @@
-use mathlib.Core.Path.{refl}
+use Rattle.std.proofs.Common.{refl}
 use Rattle.definition.specs.Gate.{allow_can_tx}
 use Rattle.outcomes.proofs.Laws.{by_core}
 use Rattle.gate_frames.proofs.allow_can_tx.Goals as goal

@@ -1,5 +1,4 @@
-use mathlib.Core.Path.{◌≡◌, ap, ◌∙◌}
-use mathlib.Core.Bool.{Bool}
+use Rattle.std.proofs.Common.{Bool, ◌≡◌, ap, ◌∙◌}
 use Rattle.state.specs.View.{view, lists_in}
 use Rattle.phone_trust.specs.Trust.{is_validated}
 use Rattle.can_tx.specs.Tx.{allow}
