@@ -1,5 +1,5 @@
 -- What an operation leaves on a copy of the lists is what its preview tells.
-use mathlib.Core.Path.{◌≡◌}
+use Rattle.std.proofs.Common.{◌≡◌}
 use Rattle.state.specs.declared.Gate.{Gate}
 use Rattle.state.specs.declared.Listed.{Listed}
 use Rattle.state.specs.View.{Listing, view, listed_in}

@@ -1,7 +1,5 @@
 -- `preview_tells`: the claim of specs/Tells.antt.
-use mathlib.Core.Path.{◌≡◌, refl, sym, ◌∙◌}
-use mathlib.Core.Bool.{true, false}
-use mathlib.Core.List.{[]}
+use Rattle.std.proofs.Common.{true, false, ◌≡◌, [], refl, sym, ◌∙◌}
 use Rattle.state.specs.declared.Gate.{Gate}
 use Rattle.state.specs.declared.Answer.{Answer}
 use Rattle.state.specs.declared.Answer.TheVariants.{BadSettings}
