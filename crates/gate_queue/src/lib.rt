@@ -33,6 +33,7 @@ pub struct RanOn {
 fn sent_on(g: Gate, x: Sent) -> SentOn
     ensures { result ≡ sending_of g x }
 {
+    // An array that is a field cannot stand in a literal.
     let all = x.all;
     SentOn {
         outcome: outcomes::queued(g, x.answer, g.core, x.queue),
@@ -96,6 +97,7 @@ pub fn send_can_frame(
 fn ran_on(g: Gate, answer: Answer, x: Run) -> RanOn
     ensures { result ≡ ran_of g answer x }
 {
+    // As in `sent_on`.
     let all = x.all;
     RanOn {
         ran: Ran {

@@ -1,5 +1,4 @@
-use Rattle.std.proofs.Common.{refl, ◌∙◌, ap, length}
-use borrow.Author.Tests.{ne_eqb}
+use Rattle.std.proofs.Common.{refl, ◌∙◌, ap, length, ne_eqb}
 use Rattle.state.specs.declared.Outcome.{Outcome}
 use Rattle.definition.specs.Gate.{lent_records}
 use Rattle.gate_queue.proofs.Laws.{sends_by, sends_none}

@@ -1,5 +1,4 @@
-use Rattle.std.proofs.Common.{refl, ◌∙◌, ap, length}
-use borrow.Author.Tests.{ne_eqb}
+use Rattle.std.proofs.Common.{refl, ◌∙◌, ap, length, ne_eqb}
 use Rattle.state.specs.declared.Ran.{Ran}
 use Rattle.definition.specs.Gate.{ran_given}
 use Rattle.gate_queue.proofs.Laws.{serves_by, serves_none}
