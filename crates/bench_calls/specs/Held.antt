@@ -61,7 +61,7 @@ ready digest bytes method =
 
 -- a list in which no frame waits
 abbrev pub list : List Waiting
-list = replicate 16 (record { frame = frame; class = Platform; owner = record { bytes = replicate 32 0; len = 0 } })
+list = replicate 16 (record { frame = frame; class = Platform; owner = no_id })
 
 -- the gate with no frame waiting
 abbrev pub emptied : Gate → Gate

@@ -35,6 +35,8 @@ fn encoded(r: Run, i: u64) -> Run
     }
 }
 
+// ---- the rounds: a loop each, as the calls differ in what they are lent and give, and nothing beside them is to be timed
+
 // `n` starts, each in the place of the one before it.
 pub fn timed_starts(
     n: u64,
