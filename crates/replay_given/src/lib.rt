@@ -15,7 +15,7 @@ ghost use Rattle.replay_given.specs.Turns.{turn_of, laid, calm, done, ran, passe
 
 use frames::{CanFrame, TxClass};
 use replay_host::Host;
-use replay_items::{Ends, Items};
+use replay_items::{Ends, Items, NO_FRAME};
 use state::{Answer, Outcome};
 
 // The host after a line, the place after what was laid down, and whether the line was a call.
@@ -129,20 +129,26 @@ pub fn run_host(
 ) -> Played
     ensures { Lays (ran (host_line name i (lent_bytes p room.now)) h) (page out.old at) result out.new }
 {
-    let c = i.class;
-    let class = c.class;
+    let frame = i.frame.unwrap_or(NO_FRAME);
+    let class = i.class.unwrap_or(TxClass::Platform);
     let owner = replay_items::bytes::lent(room, p.fingerprint, p.owner);
+    // An arm has a number, since a name is the number of its row in replay_names' table, and `host_lines` of
+    // replay_calls/specs/Calls.antt counts in them.
     match name {
-        0 => put_sent(h, i.frame.frame, class, owner, out, at),
-        1 => put_served(h, i.numbers.turns.value, i.numbers.clock.value, out, at),
-        2 => put_done(replay_host::with_lent(h, i.numbers.length.value), out, at),
+        0 => put_sent(h, frame, class, owner, out, at),
+        1 => {
+            let turns = i.numbers.turns.unwrap_or(0);
+            let clock = i.numbers.clock.unwrap_or(0);
+            put_served(h, turns, clock, out, at)
+        }
+        2 => {
+            let length = i.numbers.length.unwrap_or(0);
+            put_done(replay_host::with_lent(h, length), out, at)
+        }
         3 => {
-            let w = replay_host::record_of(i.frame.frame, class, owner);
-            put_done(
-                replay_host::with_record(h, i.numbers.slot.value, w),
-                out,
-                at,
-            )
+            let slot = i.numbers.slot.unwrap_or(0);
+            let w = replay_host::record_of(frame, class, owner);
+            put_done(replay_host::with_record(h, slot, w), out, at)
         }
         4 => put_list(h, out, at),
         _ => not_called(h, at),
