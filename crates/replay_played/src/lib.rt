@@ -20,19 +20,17 @@ pub fn put_error(out: &mut [u8], at: usize, name: usize) -> usize
     ensures { page out.new result ≡ text (error_of name) (page out.old at) }
 {
     if replay_names::is_name(name) {
-        return replay_page::put_text(out, at, b" error=bad_items");
+        replay_page::put_text(out, at, b" error=bad_items")
+    } else {
+        replay_page::put_text(out, at, b" error=unknown_call")
     }
-    replay_page::put_text(out, at, b" error=unknown_call")
 }
 
 // Whether a line is passed over: it is empty or begins with `#`.
 pub fn is_passed_over(line: &[u8]) -> bool
     ensures { result ≡ passed_over line.now }
 {
-    if line.len() == 0 {
-        return true;
-    }
-    line[0] == b'#'
+    line.is_empty() || line[0] == b'#'
 }
 
 // What a line that is too long to be read gives.

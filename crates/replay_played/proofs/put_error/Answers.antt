@@ -6,6 +6,6 @@ pub returns-then-is_name : goal.returns-then-is_name
 unfolding text error_of
 returns-then-is_name c = rw (← c.is_name.ensures, c.if-is_name.true, ← c.put_text.ensures)
 
-pub returns : goal.returns
+pub returns-else-is_name : goal.returns-else-is_name
 unfolding text error_of
-returns c = rw (← c.is_name.ensures, c.if-is_name.false, ← c.put_text-2.ensures)
+returns-else-is_name c = rw (← c.is_name.ensures, c.if-is_name.false, ← c.put_text-else-is_name.ensures)
