@@ -144,6 +144,7 @@ fn with_sixteen(list: [Waiting; 17], all: [Waiting; 16]) -> [Waiting; 17]
 pub fn send_can_frame(h: Host, frame: CanFrame, class: TxClass, owner: &[u8]) -> Sent
     ensures { Sends h frame class owner.now result }
 {
+    // `list` stays a local: the prover does not cover an array that goes straight from a field or a call into a struct literal.
     let list = h.list;
     if h.lent == 16 {
         let s = gate_queue::send_sixteen(h.gate, sixteen(list), frame, class, owner);
@@ -161,6 +162,7 @@ pub fn send_can_frame(h: Host, frame: CanFrame, class: TxClass, owner: &[u8]) ->
 pub fn serve_can_frames(h: Host, turns: u32, clock: u64) -> Served
     ensures { Serves h turns clock result }
 {
+    // `list` stays a local: the prover does not cover an array that goes straight from a field or a call into a struct literal.
     let list = h.list;
     if h.lent == 16 {
         let s = gate_queue::serve_sixteen(h.gate, sixteen(list), turns, clock);
