@@ -55,9 +55,13 @@ fn run_rest(
     ensures { Lays (ran (rest_line name i (lent_bytes p room.now)) h) (page out.old at) result out.new }
 {
     let lent = replay_items::bytes::lent(room, p.owner, p.output);
+    // An arm has a number, since a name is the number of its row in replay_names' table, and `other_lines` of
+    // replay_calls/specs/Calls.antt counts in them.
     match name {
         0 => {
-            let set = replay_host::with_counters(h, i.numbers.next.value, i.numbers.relocks.value);
+            let next = i.numbers.next.unwrap_or(0);
+            let relocks = i.numbers.relocks.unwrap_or(0);
+            let set = replay_host::with_counters(h, next, relocks);
             replay_given::put_done(set, out, at)
         }
         1 => {
@@ -66,7 +70,8 @@ fn run_rest(
         }
         2 => {
             let saved = replay_items::bytes::lent(room, p.code, p.stored);
-            let k = replay_conversion::put_conversion(out, at, saved, i.switches.target.on, lent);
+            let two = i.switches.target.unwrap_or(false);
+            let k = replay_conversion::put_conversion(out, at, saved, two, lent);
             replay_given::put_calm(h, out, k)
         }
         3 => put_take(h, lent, out, at),

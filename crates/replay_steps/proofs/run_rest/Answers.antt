@@ -1,6 +1,5 @@
--- Each arm: its number, the bytes that it takes, and what is made of it.
-use Prim.Native.Nat.{◌≤◌}
-use native.Mathlib.Omega.{arith}
+-- Each arm: its number, the bytes and the items that it takes, and what is made of it.
+use Rattle.std.proofs.Common.{◌≤◌, arith}
 use lib.Dec.{lit≤}
 use Rattle.replay_calls.specs.Calls.{other_lines, rest_lines, rest_line}
 use Rattle.replay_calls.proofs.Laws.{rest_host}
@@ -20,7 +19,7 @@ put_take-requires c = rw c.lent-lent.ensures c.requires
 
 pub returns-in-0 : goal.returns-in-0
 unfolding ran laid rest_line rest_lines other_lines
-returns-in-0 c = rw c.in-0.is (rw c.with_counters-set.ensures at c.put_done.ensures)
+returns-in-0 c = rw (c.in-0.is, ← c.unwrap_or-next.ensures, ← c.unwrap_or-relocks.ensures) (rw c.with_counters-set.ensures at c.put_done.ensures)
 
 pub returns-in-1 : goal.returns-in-1
 unfolding ran rest_line rest_lines other_lines
@@ -31,7 +30,7 @@ unfolding ran lent_bytes rest_line rest_lines other_lines
 returns-in-2 c =
     let k = c.put_calm.ensures in
     let v = c.put_conversion-k.ensures in
-    rw (c.in-2.is, ← c.lent-saved.ensures, ← c.lent-lent.ensures) (rw (← v.0) k.0, upto turn_room (lit≤ tt) (v.1 ⊕ k.1))
+    rw (c.in-2.is, ← c.lent-saved.ensures, ← c.lent-lent.ensures, ← c.unwrap_or-two.ensures) (rw (← v.0) k.0, upto turn_room (lit≤ tt) (v.1 ⊕ k.1))
 
 pub returns-in-3 : goal.returns-in-3
 unfolding lent_bytes rest_line rest_lines other_lines
