@@ -1,10 +1,5 @@
 -- A call on waiting frames leaves the records that are not lent; so much room the line of a run takes.
-use mathlib.Core.Path.{◌≡◌, ◌∙◌}
-use mathlib.Core.Bool.{true}
-use mathlib.Core.List.{List, ◌++◌}
-use Prim.Native.Nat.{ℕ}
-use lib.Dec.{lit≤}
-use lib.ListN.{take, drop, take-append-drop}
+use Rattle.std.proofs.Common.{◌≡◌, ◌∙◌, ℕ, true, List, ◌++◌, take, drop, lit≤, take-append-drop}
 use mir.Val.{Val}
 use Rattle.definition.specs.Gate.{Given, given, lent_records, ran_given}
 use Rattle.replay_frames.specs.Frames as Frames

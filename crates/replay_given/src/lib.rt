@@ -29,8 +29,7 @@ pub struct Played {
 pub fn put_outcome(h: Host, o: Outcome, out: &mut [u8], at: usize) -> Played
     ensures { Lays (laid h (given o)) (page out.old at) result out.new }
 {
-    let a = o.answer;
-    let k = replay_lines::answer::put_answer(out, at, a);
+    let k = replay_lines::answer::put_answer(out, at, o.answer);
     let k = replay_signals::put_signals(out, k, o.signals);
     let host = replay_host::with_gate(h, o.gate);
     Played {
@@ -44,8 +43,7 @@ pub fn put_outcome(h: Host, o: Outcome, out: &mut [u8], at: usize) -> Played
 pub fn put_calm(h: Host, out: &mut [u8], at: usize) -> Played
     ensures { (turn_of result out.new ≡ calm h (page out.old at)) × Within calm_room (signals no_signals) }
 {
-    let s = state::replies::no_signals();
-    let k = replay_signals::put_signals(out, at, s);
+    let k = replay_signals::put_signals(out, at, state::replies::no_signals());
     Played {
         host: h,
         at: k,
@@ -76,8 +74,7 @@ pub fn put_done(h: Host, out: &mut [u8], at: usize) -> Played
 fn put_list(h: Host, out: &mut [u8], at: usize) -> Played
     ensures { Lays (ran lent_list h) (page out.old at) result out.new }
 {
-    let list = h.list;
-    let k = replay_frames::put_lent_list(out, at, list, h.lent);
+    let k = replay_frames::put_lent_list(out, at, h.list, h.lent);
     put_calm(h, out, k)
 }
 
@@ -93,8 +90,7 @@ fn put_sent(
     ensures { Lays (ran (lending (λ (list : List Waiting). send_can_frame list frame class owner.now)) h) (page out.old at) result out.new }
 {
     let s = replay_host::send_can_frame(h, frame, class, owner);
-    let list = s.list;
-    let next = replay_host::with_list(h, list);
+    let next = replay_host::with_list(h, s.list);
     put_outcome(next, s.outcome, out, at)
 }
 
@@ -103,11 +99,9 @@ fn put_served(h: Host, turns: u32, clock: u64, out: &mut [u8], at: usize) -> Pla
     ensures { Lays (ran (lending (λ (list : List Waiting). serve_can_frames list turns clock)) h) (page out.old at) result out.new }
 {
     let s = replay_host::serve_can_frames(h, turns, clock);
-    let list = s.list;
-    let next = replay_host::with_list(h, list);
+    let next = replay_host::with_list(h, s.list);
     let o = s.ran.outcome;
-    let a = o.answer;
-    let k = replay_frames::put_report(out, at, a, s.ran.report);
+    let k = replay_frames::put_report(out, at, o.answer, s.ran.report);
     let k = replay_signals::put_signals(out, k, o.signals);
     let host = replay_host::with_gate(next, o.gate);
     Played {

@@ -1,10 +1,5 @@
 -- A query leaves the gate and raises nothing, and what is done with a save raises nothing; so much room their lines take.
-use mathlib.Core.Path.{◌≡◌, refl}
-use mathlib.Core.Bool.{Bool, true, false, cond}
-use mathlib.Core.List.{List}
-use Prim.Native.Nat.{ℕ, ◌≤◌}
-use lib.Dec.{lit≤}
-use lib.ListN.{length}
+use Rattle.std.proofs.Common.{◌≡◌, refl, Bool, true, false, cond, List, ℕ, ◌≤◌, length, lit≤}
 use mir.Val.{Val}
 use Rattle.answers.specs.Query.{Query, plain}
 use Rattle.definition.specs.Gate.{SaveCall, Lent, on_save, ask, answered, saving, of_save, asked, served, says, left, packed, gives, lent_given, step}

@@ -22,8 +22,7 @@ fn put_take(h: Host, lent: &[u8], out: &mut [u8], at: usize) -> Played
     let n = lent.len();
     let mut copy = replay_lines::lent::copy_of(lent);
     let o = gate_phones::take_phone_validations_save(h.gate, &mut copy[..n]);
-    let a = o.answer;
-    let k = replay_lines::answer::put_answer(out, at, a);
+    let k = replay_lines::answer::put_answer(out, at, o.answer);
     let k = replay_lines::lent::put_output(out, k, &copy[..n]);
     let next = replay_host::with_gate(h, o.gate);
     replay_given::put_calm(next, out, k)

@@ -1,5 +1,4 @@
-use borrow.Author.Rules.{rules}
-use lib.Dec.{lit≤}
+use Rattle.std.proofs.Common.{lit≤}
 use Rattle.replay_frames.proofs.Room.{done_in}
 use Rattle.replay_page.proofs.Room.{◌⊕◌, upto}
 use Rattle.replay_given.specs.Turns.{turn_room}

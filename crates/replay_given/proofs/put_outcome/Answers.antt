@@ -1,9 +1,8 @@
-use lib.Dec.{lit≤}
+use Rattle.std.proofs.Common.{lit≤}
 use Rattle.replay_lines.proofs.AnswerRoom.{answer_in}
 use Rattle.replay_page.proofs.Room.{◌⊕◌, upto}
 use Rattle.replay_signals.proofs.Room.{signals_in}
 use Rattle.replay_given.specs.Turns.{laid, turn_room}
-use borrow.Author.Rules.{rules}
 use Rattle.replay_given.proofs.put_outcome.Goals as goal
 
 pub returns : goal.returns

@@ -1,4 +1,3 @@
-use borrow.Author.Rules.{rules}
 use Rattle.replay_given.specs.Turns.{ran}
 use Rattle.replay_given.proofs.Laws.{lays_as, laid_served, served_fits}
 use Rattle.replay_given.proofs.put_served.Goals as goal

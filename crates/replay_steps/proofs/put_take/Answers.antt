@@ -1,5 +1,4 @@
-use mathlib.Core.Path.{sym, ap, ◌∙◌}
-use lib.ListN.{length}
+use Rattle.std.proofs.Common.{sym, ap, ◌∙◌, length}
 use Rattle.definition.specs.Gate.{take_phone_validations_save, Given}
 use Rattle.replay_lines.proofs.Copies.{left_few, left_inside, left_back, left_whole}
 use Rattle.replay_given.specs.Turns.{laid, ran}

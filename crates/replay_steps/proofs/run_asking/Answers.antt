@@ -1,5 +1,5 @@
 -- By the kind of line that the number is of, and what is made of it.
-use Prim.Native.Nat.{◌-◌}
+use Rattle.std.proofs.Common.{◌-◌}
 use Rattle.replay_calls.specs.Calls.{plain_query, long_query}
 use Rattle.replay_calls.proofs.Laws.{asking_plain, asking_long, asking_rest}
 use Rattle.replay_items.specs.Bytes.{lent_bytes}

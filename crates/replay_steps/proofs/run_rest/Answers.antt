@@ -1,6 +1,5 @@
 -- Each arm: its number, the bytes and the items that it takes, and what is made of it.
-use Rattle.std.proofs.Common.{◌≤◌, arith}
-use lib.Dec.{lit≤}
+use Rattle.std.proofs.Common.{◌≤◌, arith, lit≤}
 use Rattle.replay_calls.specs.Calls.{other_lines, rest_lines, rest_line}
 use Rattle.replay_calls.proofs.Laws.{rest_host}
 use Rattle.replay_items.specs.Bytes.{lent_bytes}
