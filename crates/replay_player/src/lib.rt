@@ -54,7 +54,7 @@ fn play_line(h: Host, number: u64, line: &[u8], room: &mut [u8], out: &mut [u8])
     let name = replay_names::name_of(&line[..e]);
     let read = replay_items::read(line, room);
     if replay_items::takes::takes(name, read.items) {
-        return play_call(
+        play_call(
             h,
             number,
             &line[..e],
@@ -63,9 +63,10 @@ fn play_line(h: Host, number: u64, line: &[u8], room: &mut [u8], out: &mut [u8])
             read.ends,
             room,
             out,
-        );
+        )
+    } else {
+        play_error(h, number, name, out)
     }
-    play_error(h, number, name, out)
 }
 
 // A line with the state of a gate.
@@ -90,10 +91,8 @@ pub fn play(
     ensures { (turn_of result out.new ≡ with_state states number (played h number line.now (page out.old 0))) × (room.new ≡ put room.old 0 (joined (bytes_of line.now))) × EveryLineFits states h number line.now }
 {
     let mut r = play_line(h, number, line, room, out);
-    if states {
-        if r.called {
-            r.at = put_state(out, r.at, number, r.host.gate);
-        }
+    if states && r.called {
+        r.at = put_state(out, r.at, number, r.host.gate);
     }
     r
 }
@@ -110,8 +109,6 @@ pub fn first_host() -> Host
         keep: 0,
         bonded: 0,
     };
-    let none = state::running::no_method();
-    let list = [none; 8];
-    let made = gate_sessions::new_gate(settings, list, 0);
+    let made = gate_sessions::new_gate(settings, [state::running::no_method(); 8], 0);
     replay_host::first_host(made.gate)
 }

@@ -1,5 +1,5 @@
 use Rattle.replay_played.specs.Played.{ended}
-use borrow.Author.Rules.{rules}
+use Rattle.std.proofs.Common.{rules}
 use Rattle.replay_player.proofs.play_call.Goals as goal
 
 pub run-r-requires : goal.run-r-requires

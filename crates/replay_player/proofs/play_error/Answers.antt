@@ -1,5 +1,5 @@
 use Rattle.replay_played.specs.Played.{failed, ended}
-use borrow.Author.Rules.{rules}
+use Rattle.std.proofs.Common.{rules}
 use Rattle.replay_player.proofs.play_error.Goals as goal
 
 pub returns : goal.returns

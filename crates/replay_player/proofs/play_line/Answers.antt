@@ -1,7 +1,6 @@
-use mathlib.Core.Path.{sym, ◌∙◌}
+use Rattle.std.proofs.Common.{sym, ◌∙◌, rules}
 use Rattle.replay_played.proofs.Laws.{word_length, played_right, played_wrong}
 use Rattle.replay_played.proofs.Room.{lent_most, right_in, wrong_in}
-use borrow.Author.Rules.{rules}
 use Rattle.replay_player.proofs.play_line.Goals as goal
 
 pub slice_bounds-name_of-end : goal.slice_bounds-name_of-end
@@ -21,8 +20,8 @@ returns-then-takes c =
     let t = played_right _ _ _ _ _ _ _ c.name_end-e.ensures c.name_of-name.ensures r.items _ r.bytes right _ call.0 in
     (t, r.memory, right_in c.args.h c.args.number c.ranges.number.fits _ _ _ _ c.name_end-e.ensures c.name_of-name.ensures r.items _ r.bytes right call.1)
 
-pub returns : goal.returns
-returns c =
+pub returns-else-takes : goal.returns-else-takes
+returns-else-takes c =
     let r = c.read-read.ensures in
     let wrong = sym c.takes.ensures ∙ c.if-takes.false in
     let t = played_wrong _ _ _ _ _ _ _ c.name_end-e.ensures c.name_of-name.ensures r.items wrong _ c.play_error.ensures in

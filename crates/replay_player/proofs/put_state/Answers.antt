@@ -1,5 +1,5 @@
 use Rattle.replay_played.specs.Played.{state_line}
-use borrow.Author.Rules.{rules}
+use Rattle.std.proofs.Common.{rules}
 use Rattle.replay_player.proofs.put_state.Goals as goal
 
 pub returns : goal.returns
