@@ -9,7 +9,7 @@ ghost use Rattle.replay_played.specs.Played.{most_read, line_room};
 ghost use Rattle.replay_given.specs.Turns.{turn_of};
 ghost use Rattle.replay.specs.Script.{kept_len, kept_in, line_in, line_gives, host_after, read, ReadOn, reading_of, next_line};
 
-use replay_arguments::Asked;
+use replay_arguments::{Asked, UnknownArgument};
 use replay_given::Played;
 use replay_host::Host;
 use std::env::{Env, FillError};
@@ -17,6 +17,7 @@ use std::io::{Error, Read};
 
 // The host, the number of the line that is being read, and how much of it is there; above the room for a line: it is too
 // long. Not `going`: the script has ended, or reading or writing failed.
+// `going` is a flag: `finish_line` says the next state whether it goes on or not.
 #[derive(Clone, Copy)]
 struct Replay {
     host: Host,
@@ -48,13 +49,13 @@ fn keep(line: &mut [u8], len: usize, more: &[u8]) -> usize
     ensures { (result ≡ kept_len line.old len more.now) × (line.new ≡ kept_in line.old len more.now) }
 {
     if line.len() < len {
-        return len;
+        len
+    } else if line.len() - len < more.len() {
+        line.len() + 1
+    } else {
+        arrays::put(line, len, more);
+        len + more.len()
     }
-    if line.len() - len < more.len() {
-        return line.len() + 1;
-    }
-    arrays::put(line, len, more);
-    len + more.len()
 }
 
 // Prints the first `at` bytes that were laid down. Whether that goes well is open.
@@ -74,15 +75,16 @@ fn give_line(p: Replay, line: &[u8], states: bool, room: &mut [u8], out: &mut [u
     requires { (length line.now ≤ length room.old) × (line_room ≤ length out.old) × (length line.now ≤ most_read) }
     ensures { (turn_of result out.new ≡ line_gives states p.host p.number (line_in line.now p.len) (page out.old 0)) × (result.at ≤ length out.new) }
 {
-    let n = p.len;
-    if line.len() < n {
+    if line.len() < p.len {
         let k = replay_played::put_too_long(p.number, out);
         return replay_given::not_called(p.host, k);
     }
-    if replay_played::is_passed_over(&line[..n]) {
-        return replay_given::not_called(p.host, 0);
+    let line = &line[..p.len];
+    if replay_played::is_passed_over(line) {
+        replay_given::not_called(p.host, 0)
+    } else {
+        replay_player::play(p.host, p.number, line, states, room, out)
     }
-    replay_player::play(p.host, p.number, &line[..n], states, room, out)
 }
 
 // Plays the line that has ended; the next one has no byte yet. Open is whether it goes on, and what is left in `room` and `out`,
@@ -99,13 +101,11 @@ fn finish_line(
     ensures { result ≡ next_line p.number (host_after p.host p.number (line_in line.now p.len)) result.going }
 {
     let r = give_line(p, line, states, room, out);
-    let host = r.host;
-    let going = print(rt, out, r.at);
     Replay {
-        host,
-        number: std::num::wrapping_add_u64(p.number, 1),
+        host: r.host,
+        number: p.number.wrapping_add(1),
         len: 0,
-        going,
+        going: print(rt, out, r.at),
     }
 }
 
@@ -124,6 +124,7 @@ fn read_piece(
 {
     let mut q = p;
     let mut from = 0;
+    // By place and not by `split`: of its last part it is left open whether the line has ended.
     while from < piece.len() {
         let e = replay_script::find(piece, from, 10);
         q.len = keep(line, q.len, &piece[from..e]);
@@ -131,11 +132,10 @@ fn read_piece(
             return q;
         }
         q = finish_line(rt, q, line, states, room, out);
-        if q.going {
-            from = e + 1;
-        } else {
+        if !q.going {
             return q;
         }
+        from = e + 1;
     }
     q
 }
@@ -179,19 +179,15 @@ fn run(
 )
     requires { (length line.old ≤ length room.old) × (line_room ≤ length out.old) × (length line.old ≤ most_read) }
 {
-    let first = replay_player::first_host();
     let mut p = Replay {
-        host: first,
+        host: replay_player::first_host(),
         number: 1,
         len: 0,
         going: true,
     };
-    let mut turns: u64 = 18446744073709551615;
-    while 0 < turns {
+    for _ in 0..u64::MAX {
         p = turn(rt, script, p, line, states, room, out);
-        if p.going {
-            turns -= 1;
-        } else {
+        if !p.going {
             return;
         }
     }
@@ -207,10 +203,8 @@ fn play(rt: &(impl Print + Eprint), script: &mut impl Read, states: bool) {
 fn main(rt: HostRuntime) {
     let mut first = [0u8; 16];
     let n = input::arg(&rt, 1, &mut first);
-    let asked = replay_arguments::asked_by(input::arg_count(&rt), &first[..n]);
-    match asked {
-        Asked::Lines => play(&rt, &mut rt.stdin(), false),
-        Asked::States => play(&rt, &mut rt.stdin(), true),
-        Asked::Unknown(place) => refuse(&rt, &rt.stderr(), place),
+    match replay_arguments::asked_by(input::arg_count(&rt), &first[..n]) {
+        Ok(asked) => play(&rt, &mut rt.stdin(), asked == Asked::States),
+        Err(UnknownArgument(place)) => refuse(&rt, &rt.stderr(), place),
     }
 }

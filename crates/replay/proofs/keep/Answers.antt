@@ -11,6 +11,6 @@ pub returns-then-line-len-2 : goal.returns-then-line-len-2
 unfolding kept_len kept_in
 returns-then-line-len-2 c = rw (le-ltb _ _ c.if-line-len.false, lt-ltb _ _ c.if-line-len-2.true) (refl, refl)
 
-pub returns : goal.returns
+pub returns-else-line-len-2 : goal.returns-else-line-len-2
 unfolding kept_len kept_in
-returns c = rw (le-ltb _ _ c.if-line-len.false, le-ltb _ _ c.if-line-len-2.false) (refl, c.put.ensures)
+returns-else-line-len-2 c = rw (le-ltb _ _ c.if-line-len.false, le-ltb _ _ c.if-line-len-2.false) (refl, c.put.ensures)

@@ -1,4 +1,4 @@
-use Rattle.std.proofs.Common.{◌≡◌, ◌-◌, ◌≤◌, length, drop, sym, refl, ◌∙◌, arith}
+use Rattle.std.proofs.Common.{◌≡◌, ◌-◌, ◌≤◌, length, drop, sym, refl, ap, ◌∙◌, not, arith}
 use Rattle.replay_script.proofs.Laws.{found_le, never}
 use Rattle.replay.specs.Script.{read, reading_of}
 use Rattle.replay.proofs.Laws.{read_none, piece_end, piece_on}
@@ -40,8 +40,8 @@ loop-from-preserved g c =
       l.invariant.4 ∙ piece_on c.args.piece.now l.line _ l.from _ c.find-e.ensures l.q.host l.q.number l.q.len _ _ l.invariant.1 c.keep.ensures _ _ c.finish_line-q.ensures c.if-piece-e.false,
     )
 
-pub returns-else-q : goal.returns-else-q
-returns-else-q g c = λ going. never (sym c.if-q.false ∙ going)
+pub returns-then-not-q : goal.returns-then-not-q
+returns-then-not-q g c = λ going. never (sym (ap not going) ∙ c.if-not-q.true)
 
 pub returns : goal.returns
 returns g c =
