@@ -117,11 +117,9 @@ pub fn list() -> [Waiting; 16]
 }
 
 // The gate with no frame waiting, as a new gate has none.
-pub fn emptied(g: Gate) -> Gate
+pub fn emptied(mut g: Gate) -> Gate
     ensures { result ≡ Held.emptied g }
 {
-    Gate {
-        queue: Queue { count: 0, last: 3 },
-        ..g
-    }
+    g.queue = Queue { count: 0, last: 3 };
+    g
 }

@@ -105,6 +105,21 @@ fit_found fs ts used r s long =
         let e = paired_at ts fs k no_entry.frame (omega arith) h in
         rw (zero-add, p, q, e) (taken_or (get_or used k false) _)
 
+-- the same of marks that are cut where the entries end, or not
+zip_cut : {X : Type 0} (xs : List X) (used : List Bool) (n : ℕ) → length xs ≤ n → zip xs (take n used) ≡ zip xs used
+zip_cut [] used n h = refl
+zip_cut (x ∷ xs) [] zero h = refl
+zip_cut (x ∷ xs) [] (suc n) h = refl
+zip_cut (x ∷ xs) (u ∷ used) zero h = absurd (omega arith)
+zip_cut (x ∷ xs) (u ∷ used) (suc n) h = ap (λ zs. (x, u) ∷ zs) (zip_cut xs used n (omega arith))
+
+module _ (fs : List CanFrame) (ts : List ℕ) (used : List Bool) (r : Entry) (few : length fs ≤ 512) (all : length fs ≡ length ts) (long : length used ≡ 512) where
+  pub fit_is : first_fit (paired ts fs) (free_in used) r ≡ position_from (takes r) 0 (zip (zip fs ts) used)
+  fit_is = sym (fit_found fs ts used r (record { few = few; all = all }) long)
+
+  pub fit_cut : first_fit (paired ts fs) (free_in used) r ≡ position_from (takes r) 0 (zip (zip fs ts) (take (length fs) used))
+  fit_cut = fit_is ∙ ap (position_from (takes r) 0) (sym (zip_cut (zip fs ts) used (length fs) (omega (arith, length-zip fs ts))))
+
 -- ---- each frame in turn
 
 -- at first every place is free

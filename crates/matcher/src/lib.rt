@@ -2,8 +2,9 @@
 // a log stand in the first `count` places of its array, and the rest is not looked at. Times are lent beside the frames.
 #![tactic(auto)]
 
-ghost use Rattle.std.specs.Prelude.{◌≡◌, ℕ, ◌≤◌, true, false, length, MatchResult};
-ghost use Rattle.log_entries.specs.Entries.{entry};
+ghost use Rattle.std.specs.Prelude.{◌≡◌, ℕ, ◌≤◌, true, false, cond, length, zip, MatchResult};
+ghost use Rattle.std.specs.List.{position_from};
+ghost use Rattle.log_entries.specs.Entries.{entry, fits};
 ghost use Rattle.matcher.specs.Match.{paired, wrong_size, first_fall, number_of, fault_number, match_of};
 ghost use Rattle.matcher.specs.Greedy.{free_in, first_fit, greedy, Sized};
 
@@ -60,7 +61,22 @@ pub fn answer_number(answer: Result<Match, LogFault>) -> u8
     }
 }
 
+// The first place whose entry fits and is not taken yet, of the entries and their marks side by side.
+fn first_place(
+    journal: &[CanFrame],
+    sent: &[u64],
+    used: &[bool],
+    f: CanFrame,
+    seen: u64,
+) -> Option<usize>
+    ensures { result ≡ position_from (λ p. cond p.1 false (fits (entry p.0.1 p.0.0) (entry seen f))) 0 (zip (zip journal.now sent.now) used.now) }
+{
+    let mut entries = journal.iter().zip(sent).zip(used);
+    entries.position(|((j, t), taken)| !*taken && log_entries::is_fit(*j, *t, f, seen))
+}
+
 // The first place of the journal that is free and fits.
+#[tactic(auto, using(crate::proofs::Steps::fit_is, crate::proofs::Steps::fit_cut))]
 fn first_fit(
     journal: &[CanFrame],
     sent: &[u64],
@@ -71,8 +87,7 @@ fn first_fit(
     requires { Sized journal.now sent.now }
     ensures { result ≡ first_fit (paired sent.now journal.now) (free_in used.now) (entry seen f) }
 {
-    let mut entries = journal.iter().zip(sent).zip(used);
-    entries.position(|((j, t), taken)| !*taken && log_entries::is_fit(*j, *t, f, seen))
+    first_place(journal, sent, used, f, seen)
 }
 
 // Each recorded frame in turn is given the first entry that is free and fits.

@@ -128,7 +128,7 @@ impl Packing {
     }
 }
 
-// A length or a count, at most 32. Public: replay_host calls it.
+// A length or a count, at most 32.
 pub fn clamp(n: usize) -> usize
     ensures { result ≡ min n 32 }
 {
@@ -267,6 +267,10 @@ pub fn canonical(l: PhoneList) -> PhoneList
 pub fn append(l: PhoneList, p: ShortId) -> PhoneList
     ensures { result ≡ laid l (pushed (id_bytes p) (phones_of l)) }
 {
+    // Of a full list nothing is copied.
+    if 32 <= l.count {
+        return l;
+    }
     let id = p.used();
     let mut packing = Packing::of(&l);
     if packing.has_room(id) {
@@ -281,5 +285,7 @@ pub fn append(l: PhoneList, p: ShortId) -> PhoneList
 pub fn list_in_range(l: PhoneList) -> bool
     ensures { result ≡ list_in_range l }
 {
-    l.count <= 32 && l.lens[..l.count].iter().all(|n| *n <= 32)
+    // The lengths by themselves: of a slice of them where they lie every call of the gate would copy the lists for its range.
+    let lens = l.lens;
+    l.count <= 32 && lens[..l.count].iter().all(|n| *n <= 32)
 }
