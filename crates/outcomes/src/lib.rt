@@ -33,11 +33,11 @@ pub fn out_of_range(core: Core) -> Said
 pub fn said_on(g: Gate, said: Said) -> Said
     ensures { result ≡ said_on (view g) said }
 {
+    // By a return: with an `else` a frame that is heard copies the lists once more (docs/LOOK-BACK.md).
     if range::in_range(g) {
-        said
-    } else {
-        out_of_range(g.core)
+        return said;
     }
+    out_of_range(g.core)
 }
 
 // The same of a session's call.

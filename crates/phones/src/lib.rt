@@ -285,7 +285,16 @@ pub fn append(l: PhoneList, p: ShortId) -> PhoneList
 pub fn list_in_range(l: PhoneList) -> bool
     ensures { result ≡ list_in_range l }
 {
-    // The lengths by themselves: of a slice of them where they lie every call of the gate would copy the lists for its range.
+    if 32 < l.count {
+        return false;
+    }
+    // For speed, as every call of the gate comes here five times: the lengths are copied out, since a slice of the list's own makes the
+    // compiler copy the whole list, and they are tested by a loop, since `all` takes twice as long on a full list (docs/LOOK-BACK.md).
     let lens = l.lens;
-    l.count <= 32 && lens[..l.count].iter().all(|n| *n <= 32)
+    for n in &lens[..l.count] {
+        if 32 < *n {
+            return false;
+        }
+    }
+    true
 }

@@ -7,26 +7,30 @@ ghost use Rattle.policy_changes.specs.Changes as Changes;
 
 use state::{Access, Answer, Buses, Core, Identity, Policy, Probe, Said};
 
-pub fn with_identity(p: Policy, identity: Identity) -> Policy
+pub fn with_identity(mut p: Policy, identity: Identity) -> Policy
     ensures { result ≡ with_identity p identity }
 {
-    Policy { identity, ..p }
+    p.identity = identity;
+    p
 }
 
-pub fn with_access(p: Policy, access: Access) -> Policy
+pub fn with_access(mut p: Policy, access: Access) -> Policy
     ensures { result ≡ with_access p access }
 {
-    Policy { access, ..p }
+    p.access = access;
+    p
 }
 
-pub fn with_buses(p: Policy, buses: Buses) -> Policy
+pub fn with_buses(mut p: Policy, buses: Buses) -> Policy
     ensures { result ≡ with_buses p buses }
 {
-    Policy { buses, ..p }
+    p.buses = buses;
+    p
 }
 
-// The core with another policy, and the read-only signals.
+// The core with another policy, and the read-only signals. As a call of its own it makes its callers copy the gate (docs/LOOK-BACK.md).
 #[tactic(auto, unfolding(crate::specs::Changes::policy_changed))]
+#[inline(always)]
 pub fn policy_changed(core: Core, answer: Answer, policy: Policy) -> Said
     ensures { result ≡ Changes.policy_changed core answer policy }
 {

@@ -1,7 +1,7 @@
 // The range of a lent gate: out of it every call answers 25.
 #![tactic(auto)]
 
-ghost use Rattle.std.specs.Prelude.{◌≡◌, true, not, cond, ◌&&◌};
+ghost use Rattle.std.specs.Prelude.{◌≡◌, true, not, cond, ◌&&◌, length};
 ghost use Rattle.saved_record.specs.Steps.{twice_at};
 ghost use Rattle.state.specs.View.{car_in_range, store_in_range, view};
 ghost use Rattle.range.specs.Range as Range;
@@ -73,8 +73,8 @@ fn window_fits(w: Window) -> bool
 }
 
 #[tactic(auto, unfolding(crate::specs::Range::core_fits, crate::specs::Range::tries_fit))]
-fn core_fits(c: Core) -> bool
-    ensures { result ≡ core_fits c }
+fn core_fits(c: &Core) -> bool
+    ensures { result ≡ core_fits c.now }
 {
     settings_fit(c.settings)
         && methods_fit(c.methods)
@@ -86,8 +86,8 @@ fn core_fits(c: Core) -> bool
 
 // A place that is not in use, or a car with 1 to 32 phones.
 #[tactic(auto, unfolding(state::specs::View::car_in_range))]
-fn place_fits(used: bool, c: CarPhones) -> bool
-    ensures { result ≡ cond used (car_in_range c) true }
+fn place_fits(used: bool, c: &CarPhones) -> bool
+    ensures { result ≡ cond used (car_in_range c.now) true }
 {
     !used || (phones::count(c.phones) != 0 && phones::list_in_range(c.phones))
 }
@@ -124,19 +124,21 @@ fn digests_differ(
     true
 }
 
-// At most four cars, each in range, and no digest under two of them. The places are written out, as in `saved_record::car_twice`.
-fn store_in_range(s: Store) -> bool
-    ensures { result ≡ store_in_range s }
+// At most four cars, each in range, and no digest under two of them. The places are written out, as in `saved_record::car_twice`. The
+// store is lent, since by value a car would be copied in every call of the gate; how many places it has is not known of what is lent.
+fn store_in_range(s: &Store) -> bool
+    requires four { length s.now.cars ≡ 4 }
+    ensures { result ≡ store_in_range s.now }
 {
     let n = s.count;
     if 4 < n {
         return false;
     }
-    let cars = s.cars;
-    let one = cars[0];
-    let two = cars[1];
-    let three = cars[2];
-    let four = cars[3];
+    let cars = &s.cars;
+    let one = &cars[0];
+    let two = &cars[1];
+    let three = &cars[2];
+    let four = &cars[3];
     if place_fits(0 < n, one) {
         if place_fits(1 < n, two) {
             if place_fits(2 < n, three) {
@@ -172,9 +174,9 @@ fn queue_fits(count: usize, last: u8) -> bool
 pub fn in_range(g: Gate) -> bool
     ensures { result ≡ in_range (view g) }
 {
-    core_fits(g.core)
+    core_fits(&g.core)
         && phones::list_in_range(g.phones.paired)
-        && store_in_range(g.phones.store)
+        && store_in_range(&g.phones.store)
         && save_fits(g.save.present, g.save.stored.len, g.save.at)
         && queue_fits(g.queue.count, g.queue.last)
 }

@@ -1,4 +1,5 @@
-// A core or a probe with one part changed.
+// A core or a probe with one part changed. Policy and probe are set in place, as the parts of a policy are in policy_changes: after struct
+// updates a turn, a frame that is heard and a platform that is noted copy the lists once more (docs/LOOK-BACK.md).
 ghost use Rattle.std.specs.Prelude.{◌≡◌};
 ghost use Rattle.state.specs.Parts.{with_methods, with_policy, with_peer, with_validation, with_probe, with_window};
 
@@ -11,10 +12,11 @@ pub fn with_methods(core: Core, methods: Methods) -> Core
     Core { methods, ..core }
 }
 
-pub fn with_policy(core: Core, policy: Policy) -> Core
+pub fn with_policy(mut core: Core, policy: Policy) -> Core
     ensures { result ≡ with_policy core policy }
 {
-    Core { policy, ..core }
+    core.policy = policy;
+    core
 }
 
 pub fn with_peer(core: Core, peer: ShortId) -> Core
@@ -29,10 +31,11 @@ pub fn with_validation(core: Core, validation: Validation) -> Core
     Core { validation, ..core }
 }
 
-pub fn with_probe(core: Core, probe: Probe) -> Core
+pub fn with_probe(mut core: Core, probe: Probe) -> Core
     ensures { result ≡ with_probe core probe }
 {
-    Core { probe, ..core }
+    core.probe = probe;
+    core
 }
 
 pub fn with_window(probe: Probe, window: Window) -> Probe

@@ -198,19 +198,10 @@ pub fn code_at(held: [u8; 9], drawn: [u8; 9], mark: Mark) -> [u8; 9]
     }
 }
 
-// The challenge with its digits.
-pub fn showing(digits: [u8; 9], raised: Raised) -> Raised
+// The challenge with its digits. They are set in place: after a struct update a start takes twice as long (docs/LOOK-BACK.md).
+pub fn showing(digits: [u8; 9], mut raised: Raised) -> Raised
     ensures { result ≡ Replies.showing digits raised }
 {
-    let ChallengeSignal { sent, challenge } = raised.challenge;
-    Raised {
-        challenge: ChallengeSignal {
-            sent,
-            challenge: Challenge {
-                code: digits,
-                ..challenge
-            },
-        },
-        ..raised
-    }
+    raised.challenge.challenge.code = digits;
+    raised
 }

@@ -1,19 +1,30 @@
-use Rattle.std.proofs.Common.{◌∙◌, take, not, ltb, rules}
-use borrow.Author.Tests.{lt-ltb, le-ltb, tests}
-use Rattle.std.proofs.lemmas.Iterator.{YieldsList-from_slice}
-use Rattle.std.proofs.lemmas.Iterator.Search.{all_from_yields_List}
+use mathlib.Core.Path.{refl}
+use lib.Dec.{ltb}
+use lib.ListN.{take}
+use native.Mathlib.Omega.{arith}
+use borrow.Author.Tests.{lt-ltb, le-ltb}
 use Rattle.phones.specs.Phones.{list_in_range}
-use Rattle.phones.proofs.Search.{all_is, at_most_is}
+use Rattle.phones.proofs.Search.{some_again, some_found, some_end}
 use Rattle.phones.proofs.list_in_range.Goals as goal
 
-pub returns-then-l-le32 : goal.returns-then-l-le32
+pub returns-then-l-gt32 : goal.returns-then-l-gt32
 unfolding list_in_range
-returns-then-l-le32 c =
-    let l = c.args.l in
-    rw (le-ltb 32 l.count c.if-l-le32.true)
-    (all_from_yields_List (λ n. not (ltb 32 n)) _ _ _ c.all.ensures.ran (YieldsList-from_slice (take l.count l.lens) (cc)) (λ x b q k. (search rules, rw (← at_most_is x.now 32) (search (rules, tests))))
-    ∙ all_is (ltb 32) (take l.count l.lens))
+returns-then-l-gt32 c = rw (lt-ltb _ _ c.if-l-gt32.true)
 
-pub returns-else-l-le32 : goal.returns-else-l-le32
+pub loop-n-init : goal.loop-n-init
+loop-n-init c = refl
+
+pub returns-then-n-gt32 : goal.returns-then-n-gt32
 unfolding list_in_range
-returns-else-l-le32 c = rw (at_most_is c.args.l.count 32, lt-ltb 32 c.args.l.count c.if-l-le32.false)
+returns-then-n-gt32 c =
+    let l = c.args.l in
+    rw (le-ltb _ _ c.if-l-gt32.false, some_found (ltb 32) (take l.count l.lens) 0 c.loop-n.n-index c.loop-n-test.true c.loop-n.invariant (lt-ltb _ _ c.if-n-gt32.true))
+
+pub loop-n-preserved : goal.loop-n-preserved
+loop-n-preserved c =
+    let l = c.args.l in
+    some_again (ltb 32) (take l.count l.lens) 0 c.loop-n.n-index c.loop-n-test.true c.loop-n.invariant (le-ltb _ _ c.if-n-gt32.false)
+
+pub returns : goal.returns
+unfolding list_in_range
+returns c = rw (le-ltb _ _ c.if-l-gt32.false, some_end _ _ c.loop-n.n-index (omega arith) c.loop-n.invariant)
