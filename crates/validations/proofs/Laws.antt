@@ -6,7 +6,7 @@ use Prim.Native.Nat.{ℕ, zero, suc, ◌+◌, ◌-◌, ◌≤◌, ◌<◌, min}
 use native.Mathlib.Numerals.{add-one}
 use native.Mathlib.Omega.{arith}
 use lib.ListN.{length, length-take, take, drop, get_or, set, replicate, drop_of_length-le, length-append, length-drop, length-map, length-set, get_or-map}
-use lib.Seq.{drop-cons, take-suc, take_all}
+use lib.Seq.{drop-cons, take-suc, take_all, get_or-take}
 use Rattle.std.specs.Prelude.{not, Some, None, unwrap_or, position}
 use borrow.Author.Tests.{ltb-true, ltb-false}
 use lib.Dec.{ltb}
@@ -248,3 +248,24 @@ laid_all s n from first left k far en ef end el =
     let here : drop from (cars_of s) ≡ map car_of cars = rw (← used_clamped s n far m, drop_map car_of (take n s.cars) from, drop_of_take n from s.cars (omega arith), ← ef) in
     let l : left ≡ padded 4 empty_car (map laid_car (map car_of cars)) = el ∙ rw (take_all k cars end, maps cars) in
     rw (here, length-map cars car_of, l)
+
+-- ---- a search among the digests of the cars in use
+
+digests_prefix : (car : List ℕ) (xs : List CarPhones) → position_or_len (λ (d : List ℕ). same_bytes d car) (map (λ (c : CarPhones). c.car) xs) ≡ position_or_len (λ (c : CarPhones). same_bytes c.car car) xs
+digests_prefix car [] = refl
+digests_prefix car (x ∷ xs) = rw (digests_prefix car xs)
+
+pub by_digests : (car : List ℕ) (xs : List CarPhones) → position (λ (d : List ℕ). same_bytes d car) (map (λ (c : CarPhones). c.car) xs) ≡ position (λ (c : CarPhones). same_bytes c.car car) xs
+by_digests car xs = rw (digests_prefix car xs, length-map)
+
+-- the list of the car that a search among the cars in use finds
+module _ (s : Store) (far : length s.cars ≡ 4) (car : List ℕ) where
+  pub found_in : (i : ℕ) → position (λ (c : CarPhones). same_bytes c.car car) (take (min s.count 4) s.cars) ≡ Some i
+      → (i < 4) × (phones_of (get_or s.cars i past_cars).phones ≡ phones_for car (cars_of s))
+  found_in i e =
+      let f = found car (take (min s.count 4) s.cars) i past_cars e in
+      let many : length (take (min s.count 4) s.cars) ≡ min s.count 4 = rw length-take (omega arith) in
+      (omega arith, ap (λ (c : CarPhones). phones_of c.phones) (sym (get_or-take (min s.count 4) s.cars i past_cars (omega arith))) ∙ f.1 ∙ ap (phones_for car) (used_clamped s (min s.count 4) far refl))
+
+  pub not_found_in : position (λ (c : CarPhones). same_bytes c.car car) (take (min s.count 4) s.cars) ≡ None → phones_for car (cars_of s) ≡ []
+  not_found_in e = ap (phones_for car) (sym (used_clamped s (min s.count 4) far refl)) ∙ not_found car (take (min s.count 4) s.cars) e

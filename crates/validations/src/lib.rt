@@ -2,7 +2,7 @@
 // in canonical form.
 #![tactic(auto)]
 
-ghost use Rattle.std.specs.Prelude.{◌≡◌, ◌≤◌, not, ◌&&◌, [], ltb, length, drop, map, position};
+ghost use Rattle.std.specs.Prelude.{◌≡◌, not, ◌&&◌, [], ltb, length, drop, min, take, position};
 ghost use Rattle.arrays.specs.Arrays.{same_bytes};
 ghost use Rattle.phones.specs.Ids.{contains, any_in};
 ghost use Rattle.phones.specs.Phones.{id_bytes, phones_of};
@@ -35,19 +35,25 @@ pub fn car_count(s: Store) -> usize
     saved_record::clamp_cars(s.count)
 }
 
-// The place of the first car with this digest.
-fn position_in(cars: &[CarPhones], car: [u8; 32]) -> Option<usize>
-    ensures { result ≡ position (λ c. same_bytes c.car car) cars.now }
+// The place of the first car with this digest. The digests are copied out: for a search in the cars the compiler would copy the store.
+fn position_in(s: Store, car: [u8; 32]) -> Option<usize>
+    ensures { result ≡ position (λ c. same_bytes c.car car) (take (min s.count 4) s.cars) }
 {
-    cars.iter().position(|c| saved_record::same_car(c.car, car))
+    let first = s.cars[0].car;
+    let second = s.cars[1].car;
+    let third = s.cars[2].car;
+    let fourth = s.cars[3].car;
+    let digests = [first, second, third, fourth];
+    digests[..saved_record::clamp_cars(s.count)]
+        .iter()
+        .position(|d| saved_record::same_car(*d, car))
 }
 
 // The place of the car with this digest; the number of cars if there is none.
 pub fn place_of(s: Store, car: [u8; 32]) -> usize
     ensures { result ≡ place_of car (cars_of s) }
 {
-    let n = saved_record::clamp_cars(s.count);
-    position_in(&s.cars[..n], car).unwrap_or(n)
+    position_in(s, car).unwrap_or(saved_record::clamp_cars(s.count))
 }
 
 // The phones of the car with this digest; none if it is not in the store.
@@ -65,17 +71,16 @@ pub fn phones_for(s: Store, car: [u8; 32]) -> PhoneList
 
 // Whether the list of the car with this digest passes a test; not if there is no such car. The four places are written out: a list
 // at a running place would be copied (docs/BENCHMARKS.md).
-fn list_passes<F: Fn(PhoneList) -> bool>(cars: &[CarPhones], car: [u8; 32], test: F) -> bool
+fn list_passes<F: Fn(PhoneList) -> bool>(s: Store, car: [u8; 32], test: F) -> bool
     requires callable { F.IsAlwaysCallable test }
-    requires few { length cars.now ≤ 4 }
-    ensures { ListPasses (F.post test) (phones_for car (map car_of cars.now)) result }
+    ensures { ListPasses (F.post test) (phones_for car (cars_of s)) result }
 {
-    match position_in(cars, car) {
+    match position_in(s, car) {
         None => false,
-        Some(0) => test(cars[0].phones),
-        Some(1) => test(cars[1].phones),
-        Some(2) => test(cars[2].phones),
-        Some(_) => test(cars[3].phones),
+        Some(0) => test(s.cars[0].phones),
+        Some(1) => test(s.cars[1].phones),
+        Some(2) => test(s.cars[2].phones),
+        Some(_) => test(s.cars[3].phones),
     }
 }
 
@@ -83,33 +88,21 @@ fn list_passes<F: Fn(PhoneList) -> bool>(cars: &[CarPhones], car: [u8; 32], test
 pub fn car_lists(s: Store, car: [u8; 32], id: &[u8]) -> bool
     ensures { result ≡ contains id.now (phones_for car (cars_of s)) }
 {
-    list_passes(
-        &s.cars[..saved_record::clamp_cars(s.count)],
-        car,
-        |list| phones::contains(list, id),
-    )
+    list_passes(s, car, |list| phones::contains(list, id))
 }
 
 // Whether the car with this digest lists some phone of the list.
 pub fn car_lists_any(s: Store, car: [u8; 32], others: PhoneList) -> bool
     ensures { result ≡ any_in (phones_of others) (phones_for car (cars_of s)) }
 {
-    list_passes(
-        &s.cars[..saved_record::clamp_cars(s.count)],
-        car,
-        |list| phones::any_in(list, others),
-    )
+    list_passes(s, car, |list| phones::any_in(list, others))
 }
 
 // This car's list is full without the phone.
 pub fn is_full(s: Store, car: [u8; 32], p: ShortId) -> bool
     ensures { result ≡ is_full (cars_of s) car (id_bytes p) }
 {
-    list_passes(
-        &s.cars[..saved_record::clamp_cars(s.count)],
-        car,
-        |list| full_without(list, p),
-    )
+    list_passes(s, car, |list| full_without(list, p))
 }
 
 // A list is full without the phone.

@@ -1,13 +1,8 @@
 -- By the list that was tested; where there is no car, its phones are none.
 use Rattle.std.proofs.Common.{inl, inr, rules}
 use Rattle.phones.specs.Ids.{any_in, some_of}
-use Rattle.arrays.proofs.Laws.{long_map}
-use Rattle.saved_record.proofs.Laws.{used_clamped}
 use Rattle.validations.proofs.car_lists_any.Goals as goal
 
 pub returns : goal.returns
 unfolding any_in some_of
-returns c =
-    let s = c.args.s in
-    let e = used_clamped s c.clamp_cars.result (search (rules, long_map)) c.clamp_cars.ensures in
-    elim c.list_passes.ensures [ inl w ↦ rw (← e, ← w.1) (search rules) | inr w ↦ rw (← e, w.1, w.0) ]
+returns c = elim c.list_passes.ensures [ inl w ↦ rw (← w.1) (search rules) | inr w ↦ rw (w.1, w.0) ]
