@@ -171,7 +171,9 @@ fn validated_by(v: Store, e: Ended) -> Store
     }
 }
 
-// What an operation on a session says. S is sent where the session succeeds.
+// What an operation on a session says. S is sent where the session succeeds. It is put in its place, as a call of its own would copy
+// the gate once more (docs/LOOK-BACK.md).
+#[inline(always)]
 pub fn ended(g: Gate, e: Ended) -> Outcome
     ensures { given result ≡ gives packed g nothing (of_session (view g) e) }
 {
