@@ -17,7 +17,8 @@ pub fn new_gate(settings: Settings, methods: [Method; 8], count: usize) -> Outco
     new_gate::new_gate(settings, methods, count)
 }
 
-// This car's list is full without the session's phone. It stays a call of its own, for the speed of the calls that ask it.
+// This car's list is full without the session's phone. It stays a call of its own, for the speed of the calls of a session
+// (docs/LOOK-BACK.md).
 #[tactic(auto, unfolding(state::specs::View::view))]
 #[inline(never)]
 fn full_for(g: Gate) -> bool

@@ -33,7 +33,7 @@ pub fn out_of_range(core: Core) -> Said
 pub fn said_on(g: Gate, said: Said) -> Said
     ensures { result ≡ said_on (view g) said }
 {
-    // By a return: with an `else` a frame that is heard copies the lists once more (docs/LOOK-BACK.md).
+    // A return, since with an `else` a frame that is heard copies the lists once more (docs/LOOK-BACK.md).
     if range::in_range(g) {
         return said;
     }
@@ -171,8 +171,8 @@ fn validated_by(v: Store, e: Ended) -> Store
     }
 }
 
-// What an operation on a session says. S is sent where the session succeeds. It is put in its place, as a call of its own would copy
-// the gate once more (docs/LOOK-BACK.md).
+// What an operation on a session says. S is sent where the session succeeds. This function is put in its place, since a call of its own
+// copies the gate once more (docs/LOOK-BACK.md).
 #[inline(always)]
 pub fn ended(g: Gate, e: Ended) -> Outcome
     ensures { given result ≡ gives packed g nothing (of_session (view g) e) }
