@@ -87,8 +87,8 @@ pub fn save_out_of_range(save: Save) -> Kept
     }
 }
 
-// S, with the record of a store. It stays a call of its own: put in its place it makes the calls on lists and sessions copy the gate once
-// more (docs/LOOK-BACK.md).
+// S, with the record of a store. It stays a call of its own: put in its place it makes most calls on lists copy more, and the calls of a
+// session take longer (docs/LOOK-BACK.md).
 #[tactic(auto, unfolding(validations::specs::Store::record_for))]
 #[inline(never)]
 fn stored(v: Store) -> ValidationsSignal
